@@ -3,4 +3,8 @@ pub mod Opened
 pub mod Chains
 pub mod Ahead
 pub mod Complete
+pub mod Local
+pub mod LocalRules
 pub mod Sound
+pub mod Begun
+pub mod BegunRules

@@ -114,7 +114,7 @@ operator_is level.Term (terminal.sign_is sign.Star) o e = let is : operator.Reck
 operator_is level.Term (terminal.sign_is sign.Slash) o e = let is : operator.Reckon arithmetic.Divide ≡ o = cc e in subst (λ (x : Operator). (level_of x ≡ level.Term) × (mark sign.Slash ≡ token_of x)) is (refl, refl)
 operator_is l t o e = absurd cc
 
-first_operator : (l : Level) (us : List Terminal) (o : Operator × List Terminal) → first_is (operator_of l) us ≡ Some o → (level_of o.0 ≡ l) × (us ≡ token_of o.0 ∷ o.1)
+pub first_operator : (l : Level) (us : List Terminal) (o : Operator × List Terminal) → first_is (operator_of l) us ≡ Some o → (level_of o.0 ≡ l) × (us ≡ token_of o.0 ∷ o.1)
 first_operator l [] o e = absurd cc
 first_operator l (t ∷ us) o e =
     let b = there (operator_of l t) (λ (a : Operator). (a, us)) o e in
@@ -149,7 +149,7 @@ leaf_made n l ts front rest e d x is parts o deep =
     subst (λ (y : Parsed × List Terminal). Took 0 n l ts y) whole (record { front = front; spells = d; parts = parts; opens = few; deep = same; bounded = bound })
 
 -- a rule takes what the next one takes
-next_took : (n : ℕ) (l : Level) (ts : List Terminal) (x : Parsed × List Terminal) → Took 0 n (next l) ts x → Took 0 n l ts x
+pub next_took : (n : ℕ) (l : Level) (ts : List Terminal) (x : Parsed × List Terminal) → Took 0 n (next l) ts x → Took 0 n l ts x
 next_took n l ts x t = record { front = t.front; spells = as_next {l = l} t.spells; parts = t.parts; opens = t.opens; deep = t.deep; bounded = t.bounded }
 
 -- ---- chains of operators
@@ -167,7 +167,7 @@ join_took n o ts us a b c p q is =
     made n (max a.depth b.0.depth) (level_of o) ts (p.front ++ token_of o ∷ q.front) b.1 (node_of o a.expr b.0.expr) (joined o p.spells q.spells) (c, b.1) reads parts (omega arith) (omega arith)
 
 -- the same in a rule that the operator stands in
-join_at : (n : ℕ) (l : Level) (o : Operator) (ts us : List Terminal) (a : Parsed) (b : Parsed × List Terminal) (c : Parsed) → level_of o ≡ l → Took 0 n l ts (a, token_of o ∷ us) → Took 0 n (next l) us b
+pub join_at : (n : ℕ) (l : Level) (o : Operator) (ts us : List Terminal) (a : Parsed) (b : Parsed × List Terminal) (c : Parsed) → level_of o ≡ l → Took 0 n l ts (a, token_of o ∷ us) → Took 0 n (next l) us b
     → node 128 (max a.depth b.0.depth) (node_of o a.expr b.0.expr) ≡ Ok c → Took 0 n l ts (c, b.1)
 join_at n l o ts us a b c is p q made_is =
     subst (λ (k : Level). Took 0 n k ts (a, token_of o ∷ us) → Took 0 n (next k) us b → Took 0 n k ts (c, b.1)) is (λ p q. join_took n o ts us a b c p q made_is) p q
@@ -278,7 +278,7 @@ pub record TookBracketed (n : ℕ) (ts : List Terminal) (x : rule.Listed × List
   pub opens : open_in_list spells + 1 ≤ n
   pub deep : x.0.deepest ≡ deepest (map depth x.0.exprs)
 
-bracketed_sound : (n : ℕ) (inner : Level → Reader) → IsInner n inner → (ts : List Terminal) (x : rule.Listed × List Terminal) → rule.bracketed_list inner ts ≡ Ok x → TookBracketed n ts x
+pub bracketed_sound : (n : ℕ) (inner : Level → Reader) → IsInner n inner → (ts : List Terminal) (x : rule.Listed × List Terminal) → rule.bracketed_list inner ts ≡ Ok x → TookBracketed n ts x
 bracketed_sound n inner h ts x e =
     let r = bind_ok (past (is_sign sign.Open) ts) (λ (us : List Terminal). rule.closed_list_of inner none_listed us) x e in
     let s = bind_ok (rule.list_at inner none_listed r.0) (λ (es : rule.Listed × List Terminal). past (is_sign sign.Close) es.1 >>= (λ rest. Ok (es.0, rest))) x r.2 in
@@ -309,7 +309,7 @@ pub record TookArm (n : ℕ) (ts : List Terminal) (x : (Arm × ℕ) × List Term
   pub second_open : open_in second + 1 ≤ n
   pub deep : x.0.1 ≡ max (depth condition) (depth value)
 
-arm_sound : (n : ℕ) (inner : Level → Reader) → IsInner n inner → (ts : List Terminal) (x : (Arm × ℕ) × List Terminal) → rule.arm_of inner ts ≡ Ok x → TookArm n ts x
+pub arm_sound : (n : ℕ) (inner : Level → Reader) → IsInner n inner → (ts : List Terminal) (x : (Arm × ℕ) × List Terminal) → rule.arm_of inner ts ≡ Ok x → TookArm n ts x
 arm_sound n inner h ts x e =
     let c = bind_ok (inner level.Disjunction ts) (λ (c : Parsed × List Terminal). rule.then_of inner c.1 >>= (λ v. Ok ((arm_of c.0.expr v.0.expr, max c.0.depth v.0.depth), v.1))) x e in
     let v = bind_ok (rule.then_of inner c.0.1) (λ (v : Parsed × List Terminal). Ok ((arm_of c.0.0.expr v.0.expr, max c.0.0.depth v.0.depth), v.1)) x c.2 in
@@ -385,7 +385,7 @@ arms_go (suc m) n inner h before ts p x t e =
     arm_turn m n inner h before ts p x t (λ us q t2 e2. arms_go m n inner h (rule.with_arm before p.0) us q x t2 e2)
     (choose_ok (behind (is_keyword keyword.When) p.1) (λ (us : List Terminal). rule.arm_at inner (rule.with_arm before p.0) us >>= (λ y. rule.more_arms m inner y.0 y.1)) (Ok (rule.with_arm before p.0, p.1)) x e)
 
-arms_sound : (n : ℕ) (inner : Level → Reader) → IsInner n inner → (before : rule.Cases) (ts : List Terminal) (x : rule.Cases × List Terminal) → rule.arms_at inner before ts ≡ Ok x → TookArms n before ts x
+pub arms_sound : (n : ℕ) (inner : Level → Reader) → IsInner n inner → (before : rule.Cases) (ts : List Terminal) (x : rule.Cases × List Terminal) → rule.arms_at inner before ts ≡ Ok x → TookArms n before ts x
 arms_sound n inner h before ts x e =
     let r = bind_ok (rule.arm_at inner before ts) (λ (y : rule.Cases × List Terminal). rule.more_arms (suc (length y.1)) inner y.0 y.1) x e in
     let s = bind_ok (rule.arm_of inner ts) (λ (y : (Arm × ℕ) × List Terminal). Ok (rule.with_arm before y.0, y.1)) r.0 r.1 in
@@ -442,7 +442,7 @@ else_turn n inner h ts x o (inl p) =
     behind_else n inner h ts p.0 x o (word_taken keyword.Else ts p.0 p.1) (choose_ok (behind (is_keyword keyword.Null) p.0) rule.without_value (rule.before_of (is_keyword keyword.End) inner p.0 >>= (λ v. Ok (Some v.0, v.1))) x p.2)
 else_turn n inner h ts x o (inr p) = without_sound n ts [] x nothing ts refl p.1 o
 
-else_sound : (n : ℕ) (inner : Level → Reader) → IsInner n inner → (ts : List Terminal) (x : Option Parsed × List Terminal) → 1 ≤ n → rule.else_of inner ts ≡ Ok x → TookElse n ts x
+pub else_sound : (n : ℕ) (inner : Level → Reader) → IsInner n inner → (ts : List Terminal) (x : Option Parsed × List Terminal) → 1 ≤ n → rule.else_of inner ts ≡ Ok x → TookElse n ts x
 else_sound n inner h ts x o e =
     else_turn n inner h ts x o (choose_ok (behind (is_keyword keyword.Else) ts) (λ (us : List Terminal). choose (behind (is_keyword keyword.Null) us) rule.without_value (rule.before_of (is_keyword keyword.End) inner us >>= (λ v. Ok (Some v.0, v.1)))) (rule.without_value ts) x e)
 
@@ -488,7 +488,7 @@ pub record TookClosed (n : ℕ) (ts : List Terminal) (x : Parsed × List Termina
   pub deep : x.0.depth ≡ depth x.0.expr
   pub bounded : x.0.depth ≤ 128
 
-closed_sound : (n : ℕ) (inner : Level → Reader) → IsInner n inner → (ts : List Terminal) (x : Parsed × List Terminal) → rule.before_of (is_sign sign.Close) inner ts ≡ Ok x → TookClosed n ts x
+pub closed_sound : (n : ℕ) (inner : Level → Reader) → IsInner n inner → (ts : List Terminal) (x : Parsed × List Terminal) → rule.before_of (is_sign sign.Close) inner ts ≡ Ok x → TookClosed n ts x
 closed_sound n inner h ts x e =
     let s = bind_ok (inner level.Disjunction ts) (λ (v : Parsed × List Terminal). past (is_sign sign.Close) v.1 >>= (λ rest. Ok (v.0, rest))) x e in
     let b = bind_ok (past (is_sign sign.Close) s.0.1) (λ (rest : List Terminal). Ok (s.0.0, rest)) x s.2 in
@@ -507,7 +507,7 @@ brackets_sound n inner h ts x e =
 
 -- ---- aggregates and COALESCE
 
-star_taken : (k : Aggregate) (us vs : List Terminal) → rule.behind_star k us ≡ Some vs → (k ≡ aggregate.Count) × (us ≡ mark sign.Star ∷ vs)
+pub star_taken : (k : Aggregate) (us vs : List Terminal) → rule.behind_star k us ≡ Some vs → (k ≡ aggregate.Count) × (us ≡ mark sign.Star ∷ vs)
 star_taken aggregate.Count us vs e = (refl, mark_taken sign.Star us vs e)
 star_taken aggregate.CountDistinct us vs e = absurd cc
 star_taken aggregate.Sum us vs e = absurd cc
@@ -535,7 +535,7 @@ rows_sound n ts us vs k x before is star e =
     if_left left rest = cond (nat_lt 0 left) (Ok (rule.leaf expr.CountRows, rest)) (Err stop.TooDeep)
 
 -- DISTINCT where an aggregate has it, and its argument
-distinct_parts : (distinct : Bool) (us front rest : List Terminal) → us ≡ front ++ mark sign.Close ∷ rest → distinct_if distinct ++ us ≡ (distinct_if distinct ++ front) ++ mark sign.Close ∷ rest
+pub distinct_parts : (distinct : Bool) (us front rest : List Terminal) → us ≡ front ++ mark sign.Close ∷ rest → distinct_if distinct ++ us ≡ (distinct_if distinct ++ front) ++ mark sign.Close ∷ rest
 distinct_parts true us front rest closed = ap (λ (v : List Terminal). word keyword.Distinct ∷ v) closed
 distinct_parts false us front rest closed = closed
 
@@ -561,7 +561,7 @@ distinct_is k distinct us d e =
     let front : us ≡ distinct_if (is_distinct k) ++ r.0 = word_taken keyword.Distinct us r.0 r.1 ∙ ap (λ b. distinct_if b ++ r.0) (sym distinct) in
     subst (λ (y : Aggregate × List Terminal). (aggregate_word k ≡ aggregate_word y.0) × (us ≡ distinct_if (is_distinct y.0) ++ y.1)) r.2 (refl, front)
 
-distinct_taken : (k : Aggregate) (us : List Terminal) (d : Aggregate × List Terminal) → rule.behind_distinct k us ≡ Some d → (aggregate_word k ≡ aggregate_word d.0) × (us ≡ distinct_if (is_distinct d.0) ++ d.1)
+pub distinct_taken : (k : Aggregate) (us : List Terminal) (d : Aggregate × List Terminal) → rule.behind_distinct k us ≡ Some d → (aggregate_word k ≡ aggregate_word d.0) × (us ≡ distinct_if (is_distinct d.0) ++ d.1)
 distinct_taken aggregate.Count us d e = distinct_is aggregate.CountDistinct refl us d e
 distinct_taken aggregate.Sum us d e = distinct_is aggregate.SumDistinct refl us d e
 distinct_taken aggregate.CountDistinct us d e = absurd cc
@@ -627,7 +627,7 @@ column_turn n m ts x (inr p) =
 column_sound : (n : ℕ) (m : List ℕ) (ts : List Terminal) (x : Parsed × List Terminal) → rule.column_at (terminal.name m ∷ ts) ≡ Ok x → Took 0 n level.Primary (terminal.name m ∷ ts) x
 column_sound n m ts x e = column_turn n m ts x (choose_ok (behind (is_sign sign.Dot) ts) (rule.column_of (lower m)) (Ok (rule.leaf (expr.Column None (lower m)), ts)) x e)
 
-primary_sound : (n : ℕ) (inner : Level → Reader) → IsInner n inner → IsSound 0 n level.Primary (rule.primary_of 128 n inner)
+pub primary_sound : (n : ℕ) (inner : Level → Reader) → IsInner n inner → IsSound 0 n level.Primary (rule.primary_of 128 n inner)
 primary_sound n inner h [] x e = absurd cc
 primary_sound n inner h (terminal.text t ∷ ts) x e =
     let one : depth (expr.Text (undoubled t)) ≡ 1 = search (rules, the_lemmas) in
@@ -653,12 +653,12 @@ integer_sound n k ts x e =
     let same : ◌≡◌ {A = Result (Parsed × List Terminal) Stop} (Ok (rule.leaf (expr.Integer (pos k)), ts)) (Ok x) = ap (λ (z : ℤ). Ok (rule.leaf (expr.Integer z), ts)) p.1 ∙ r.2 in
     leaf_made n level.Factor (terminal.integer k ∷ ts) (terminal.integer k ∷ []) ts (expr.Integer (pos k)) (integer k p.0) x same refl (omega arith) one
 
-digits_taken : (ts : List Terminal) (k : ℕ × List Terminal) → first_is rule.digits_of ts ≡ Some k → ts ≡ terminal.integer k.0 ∷ k.1
+pub digits_taken : (ts : List Terminal) (k : ℕ × List Terminal) → first_is rule.digits_of ts ≡ Some k → ts ≡ terminal.integer k.0 ∷ k.1
 digits_taken [] k e = absurd cc
 digits_taken (terminal.integer n ∷ ts) k e = let same : ◌≡◌ {A = ℕ × List Terminal} (n, ts) k = cc e in ap (λ (p : ℕ × List Terminal). terminal.integer p.0 ∷ p.1) same
 digits_taken (t ∷ ts) k e = absurd cc
 
-no_integer : (front rest : List Terminal) → first_is rule.digits_of (front ++ rest) ≡ None → heads_integer front ≡ false
+pub no_integer : (front rest : List Terminal) → first_is rule.digits_of (front ++ rest) ≡ None → heads_integer front ≡ false
 no_integer [] rest e = refl
 no_integer (terminal.keyword k ∷ ts) rest e = refl
 no_integer (terminal.name n ∷ ts) rest e = refl
@@ -692,7 +692,7 @@ minus_sound : (n : ℕ) (inner : Level → Reader) → IsInner n inner → (ts :
 minus_sound n inner h ts x e =
     minus_turn n inner h ts x (choose_ok (first_is rule.digits_of ts) (λ (k : ℕ × List Terminal). rule.needed ts (rule.negative k.0) >>= (λ z. Ok (rule.leaf (expr.Integer z), k.1))) (inner level.Factor ts >>= (λ a. then_left (node 128 a.0.depth (expr.Minus a.0.expr)) a.1)) x e)
 
-factor_sound : (n : ℕ) (inner : Level → Reader) → IsInner n inner → IsSound 0 n level.Factor (rule.factor_of 128 n inner)
+pub factor_sound : (n : ℕ) (inner : Level → Reader) → IsInner n inner → IsSound 0 n level.Factor (rule.factor_of 128 n inner)
 factor_sound n inner h [] x e = absurd cc
 factor_sound n inner h (terminal.sign_is sign.Minus ∷ ts) x e = minus_sound n inner h ts x e
 factor_sound n inner h (terminal.integer k ∷ ts) x e = integer_sound n k ts x e
@@ -702,10 +702,10 @@ factor_sound n inner h (terminal.keyword k ∷ ts) x e = next_took n level.Facto
 factor_sound n inner h (terminal.sign_is sign.Open ∷ ts) x e = next_took n level.Factor (terminal.sign_is sign.Open ∷ ts) x (primary_sound n inner h (terminal.sign_is sign.Open ∷ ts) x e)
 factor_sound n inner h (t ∷ ts) x e = absurd cc
 
-term_sound : (n : ℕ) (inner : Level → Reader) → IsInner n inner → IsSound 0 n level.Term (rule.term_of 128 n inner)
+pub term_sound : (n : ℕ) (inner : Level → Reader) → IsInner n inner → IsSound 0 n level.Term (rule.term_of 128 n inner)
 term_sound n inner h = chain_sound n level.Term (rule.factor_of 128 n inner) (factor_sound n inner h)
 
-sum_sound : (n : ℕ) (inner : Level → Reader) → IsInner n inner → IsSound 0 n level.Sum (rule.sum_of 128 n inner)
+pub sum_sound : (n : ℕ) (inner : Level → Reader) → IsInner n inner → IsSound 0 n level.Sum (rule.sum_of 128 n inner)
 sum_sound n inner h = chain_sound n level.Sum (rule.term_of 128 n inner) (term_sound n inner h)
 
 -- ---- what stands behind a predicate's subject
@@ -740,7 +740,7 @@ comparison_taken (terminal.sign_is sign.Greater) op e = let is : comparison.Grea
 comparison_taken (terminal.sign_is sign.AtLeast) op e = let is : comparison.GreaterOrEqual ≡ op = cc e in ap (λ (x : ComparisonOperator). mark (compares x)) is
 comparison_taken t op e = absurd cc
 
-first_comparison : (us : List Terminal) (op : ComparisonOperator × List Terminal) → first_is comparison_of us ≡ Some op → us ≡ mark (compares op.0) ∷ op.1
+pub first_comparison : (us : List Terminal) (op : ComparisonOperator × List Terminal) → first_is comparison_of us ≡ Some op → us ≡ mark (compares op.0) ∷ op.1
 first_comparison [] op e = absurd cc
 first_comparison (t ∷ us) op e =
     let b = there (comparison_of t) (λ (a : ComparisonOperator). (a, us)) op e in
@@ -790,7 +790,7 @@ in_sound n inner h a da not us ts x before e =
     let parts : us ≡ (not_if not ++ word keyword.In ∷ bracketed t.front) ++ r.0.1 = before ∙ ap (λ (v : List Terminal). not_if not ++ (word keyword.In ∷ v)) t.parts ∙ sym (append_assoc (not_if not) (word keyword.In ∷ bracketed t.front) r.0.1) in
     test_made n (max a.depth r.0.0.deepest) a.expr us (not_if not ++ word keyword.In ∷ bracketed t.front) r.0.1 (expr.In not a.expr r.0.0.exprs) (among not t.spells) x r.2 parts few (omega arith)
 
-text_taken : (ts : List Terminal) (t : List ℕ × List Terminal) → rule.text_at ts ≡ Ok t → (w : List ℕ) × (ts ≡ terminal.text w ∷ t.1) × (undoubled w ≡ t.0)
+pub text_taken : (ts : List Terminal) (t : List ℕ × List Terminal) → rule.text_at ts ≡ Ok t → (w : List ℕ) × (ts ≡ terminal.text w ∷ t.1) × (undoubled w ≡ t.0)
 text_taken [] t e = absurd cc
 text_taken (terminal.text w ∷ ts) t e =
     let same : ◌≡◌ {A = List ℕ × List Terminal} (undoubled w, ts) t = cc e in
@@ -871,7 +871,7 @@ comparison_turn : (n : ℕ) (inner : Level → Reader) → IsInner n inner → (
 comparison_turn n inner h a da us x (inl p) = inl (compare_sound n inner h a da p.0.0 us p.0.1 x (first_comparison us p.0 p.1) p.2)
 comparison_turn n inner h a da us x (inr p) = word_turn n inner h a da us x (choose_ok (behind (is_keyword keyword.Is) us) (rule.is_of 128 a) (choose (behind (is_keyword keyword.Not) us) (rule.named_test 128 n inner a true) (plain_test n inner a us)) x p.1)
 
-test_sound : (n : ℕ) (inner : Level → Reader) → IsInner n inner → (a : Parsed) → a.depth ≡ depth a.expr → (us : List Terminal) (x : Parsed × List Terminal) → rule.test_of 128 n inner a us ≡ Ok x → MayTest n a us x
+pub test_sound : (n : ℕ) (inner : Level → Reader) → IsInner n inner → (a : Parsed) → a.depth ≡ depth a.expr → (us : List Terminal) (x : Parsed × List Terminal) → rule.test_of 128 n inner a us ≡ Ok x → MayTest n a us x
 test_sound n inner h a da us x e = comparison_turn n inner h a da us x (choose_ok (first_is comparison_of us) (λ (op : ComparisonOperator × List Terminal). rule.compare_of 128 n inner a op.0 op.1) (word_test n inner a us) x e)
 
 -- ---- the weaker rules
@@ -884,7 +884,7 @@ tested_took n ts a x t (inl s) =
     record { front = t.front ++ s.front; spells = tested t.spells s.tests; parts = t.parts ∙ ap (λ (v : List Terminal). t.front ++ v) s.parts ∙ sym (append_assoc t.front s.front x.1); opens = few; deep = s.deep; bounded = s.bounded }
 tested_took n ts a x t (inr same) = subst (λ (y : Parsed × List Terminal). Took 0 n level.Predicate ts y) same (next_took n level.Predicate ts a t)
 
-predicate_sound : (n : ℕ) (inner : Level → Reader) → IsInner n inner → IsSound 0 n level.Predicate (rule.predicate_of 128 n inner)
+pub predicate_sound : (n : ℕ) (inner : Level → Reader) → IsInner n inner → IsSound 0 n level.Predicate (rule.predicate_of 128 n inner)
 predicate_sound n inner h ts x e =
     let r = bind_ok (rule.sum_of 128 n inner ts) (λ (a : Parsed × List Terminal). rule.test_of 128 n inner a.0 a.1) x e in
     let t = sum_sound n inner h ts r.0 r.1 in
@@ -901,11 +901,11 @@ negation_turn n inner h ts x (inl p) =
     made n r.0.0.depth level.Negation ts (word keyword.Not ∷ t.front) r.0.1 (expr.Not r.0.0.expr) (negated t.spells) x r.2 (word_taken keyword.Not ts p.0 p.1 ∙ ap (λ (v : List Terminal). word keyword.Not ∷ v) t.parts) few deep
 negation_turn n inner h ts x (inr p) = next_took n level.Negation ts x (predicate_sound n inner h ts x p.1)
 
-negation_sound : (n : ℕ) (inner : Level → Reader) → IsInner n inner → IsSound 0 n level.Negation (rule.negation_of 128 n inner)
+pub negation_sound : (n : ℕ) (inner : Level → Reader) → IsInner n inner → IsSound 0 n level.Negation (rule.negation_of 128 n inner)
 negation_sound n inner h ts x e =
     negation_turn n inner h ts x (choose_ok (behind (is_keyword keyword.Not) ts) (λ (us : List Terminal). inner level.Negation us >>= (λ a. then_left (node 128 a.0.depth (expr.Not a.0.expr)) a.1)) (rule.predicate_of 128 n inner ts) x e)
 
-conjunction_sound : (n : ℕ) (inner : Level → Reader) → IsInner n inner → IsSound 0 n level.Conjunction (rule.conjunction_of 128 n inner)
+pub conjunction_sound : (n : ℕ) (inner : Level → Reader) → IsInner n inner → IsSound 0 n level.Conjunction (rule.conjunction_of 128 n inner)
 conjunction_sound n inner h = chain_sound n level.Conjunction (rule.negation_of 128 n inner) (negation_sound n inner h)
 
 disjunction_sound : (n : ℕ) (inner : Level → Reader) → IsInner n inner → IsSound 0 n level.Disjunction (rule.disjunction_of 128 n inner)

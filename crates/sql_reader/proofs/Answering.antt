@@ -16,10 +16,11 @@ use Rattle.sql_expressions.specs.declared.stop.Stop.{Stop}
 use Rattle.sql_expressions.specs.declared.stop.Stop.TheVariants as stop
 use Rattle.sql_expressions.specs.Rules.{terms, Stops}
 use Rattle.sql_reader.specs.Rules.{query_at, within}
-use Rattle.sql_reader.specs.Grammar.{IsTree, IsShallow, IsWithin, GivesQuery, refusal, refusal_at, refusal_of, HasNone, StopsAs, IsRefusal}
+use Rattle.sql_reader.specs.Grammar.{IsTree, IsShallow, IsWithin, GivesQuery, refusal, refusal_at, refusal_of, IsFirstUnexpected, HasNone, StopsAs, IsRefusal}
 use Rattle.sql_reader.specs.Refusing.{Reports, IsKept, Refuses, no_memory, no_query, too_long, IsAnswer}
 use Rattle.sql_reader.proofs.CompleteQuery.{complete_query, unique_query}
 use Rattle.sql_reader.proofs.SoundQuery.{query_sound}
+use Rattle.sql_reader.proofs.Unexpected.{first_unexpected}
 
 -- ---- tokens with their offsets
 
@@ -108,6 +109,12 @@ within_read bs q utf8 short e printed =
     let t = query_sound (terminals (tokens_of bs)) q e in
     record { tree = record { utf8 = utf8; spells = t.spells }; shallow = record { deep = t.bounded; opens = t.opens }; short = record { text = short; printed = printed } }
 
+-- a refusal at a limit, or this
+abbrev IsLimitOr : SqlFault → Type 0 → Type 0
+IsLimitOr fault.Memory A = Unit {0}
+IsLimitOr fault.TooDeep A = Unit {0}
+IsLimitOr returned A = A
+
 -- a refusal of a token or a depth, and not of the whole text
 abbrev IsOfToken : SqlFault → Type 0
 IsOfToken fault.NotUtf8 = ⊥
@@ -138,16 +145,33 @@ stop_refusal end ps stop.Memory = tt
 stop_refusal end ps stop.TooDeep = tt
 stop_refusal end ps (stop.At left) = front_refusal end (drop (length ps - left) ps)
 
+-- a refusal of a token is that of the first that isn't expected
+of_token : (bs : List ℕ) (returned : SqlFault) (reason : Stop) → query_at within (terminals (tokens_of bs)) ≡ Err reason → refusal_of (length bs) (tokens_of bs) reason ≡ returned → IsLimitOr returned (IsFirstUnexpected (length bs) (tokens_of bs) returned)
+of_token bs returned stop.Memory stops is = subst (λ (x : SqlFault). IsLimitOr x (IsFirstUnexpected (length bs) (tokens_of bs) x)) is tt
+of_token bs returned stop.TooDeep stops is = subst (λ (x : SqlFault). IsLimitOr x (IsFirstUnexpected (length bs) (tokens_of bs) x)) is tt
+of_token bs returned (stop.At left) stops is = always returned (first_unexpected (length bs) (tokens_of bs) left returned stops is)
+  where
+    always : (returned : SqlFault) {A : Type 0} → A → IsLimitOr returned A
+    always fault.Memory a = tt
+    always fault.TooDeep a = tt
+    always fault.NotUtf8 a = a
+    always fault.TooLong a = a
+    always (fault.UnknownCharacter at) a = a
+    always (fault.TextNotClosed at) a = a
+    always (fault.IntegerOutOfRange at) a = a
+    always (fault.UnexpectedToken at) a = a
+    always (fault.LeftOut at w) a = a
+
 stopped_refusal : (bs : List ℕ) (returned : SqlFault) → IsUtf8 bs → length bs ≤ max_query_bytes → HasNone bs → StopsAs bs returned → IsRefusal bs returned
 stopped_refusal bs fault.Memory utf8 short none t = tt
 stopped_refusal bs fault.TooDeep utf8 short none t = (short, utf8, none, t)
 stopped_refusal bs fault.NotUtf8 utf8 short none t = absurd (subst IsOfToken t.reports (stop_refusal (length bs) (tokens_of bs) t.reason))
 stopped_refusal bs fault.TooLong utf8 short none t = absurd (subst IsOfToken t.reports (stop_refusal (length bs) (tokens_of bs) t.reason))
-stopped_refusal bs (fault.UnknownCharacter at) utf8 short none t = (short, utf8, none, t)
-stopped_refusal bs (fault.TextNotClosed at) utf8 short none t = (short, utf8, none, t)
-stopped_refusal bs (fault.IntegerOutOfRange at) utf8 short none t = (short, utf8, none, t)
-stopped_refusal bs (fault.UnexpectedToken at) utf8 short none t = (short, utf8, none, t)
-stopped_refusal bs (fault.LeftOut at w) utf8 short none t = (short, utf8, none, t)
+stopped_refusal bs (fault.UnknownCharacter at) utf8 short none t = (short, utf8, of_token bs (fault.UnknownCharacter at) t.reason t.stops t.reports, t)
+stopped_refusal bs (fault.TextNotClosed at) utf8 short none t = (short, utf8, of_token bs (fault.TextNotClosed at) t.reason t.stops t.reports, t)
+stopped_refusal bs (fault.IntegerOutOfRange at) utf8 short none t = (short, utf8, of_token bs (fault.IntegerOutOfRange at) t.reason t.stops t.reports, t)
+stopped_refusal bs (fault.UnexpectedToken at) utf8 short none t = (short, utf8, of_token bs (fault.UnexpectedToken at) t.reason t.stops t.reports, t)
+stopped_refusal bs (fault.LeftOut at w) utf8 short none t = (short, utf8, of_token bs (fault.LeftOut at w) t.reason t.stops t.reports, t)
 
 pub refuses_refusal : (bs : List ℕ) (returned : SqlFault) → IsUtf8 bs → length bs ≤ max_query_bytes → Refuses (length bs) (tokens_of bs) returned → IsRefusal bs returned
 refuses_refusal bs returned utf8 short no_memory = tt

@@ -40,7 +40,7 @@ use Rattle.sql_reader.proofs.Tables.{condition_is}
 
 -- ---- names
 
-name_taken : (ts : List Terminal) (x : List ℕ × List Terminal) → phrase.name_at ts ≡ Ok x → (m : List ℕ) × (ts ≡ terminal.name m ∷ x.1) × (lower m ≡ x.0)
+pub name_taken : (ts : List Terminal) (x : List ℕ × List Terminal) → phrase.name_at ts ≡ Ok x → (m : List ℕ) × (ts ≡ terminal.name m ∷ x.1) × (lower m ≡ x.0)
 name_taken [] x e = absurd cc
 name_taken (terminal.name m ∷ ts) x e =
     let same : ◌≡◌ {A = List ℕ × List Terminal} (lower m, ts) x = cc e in
@@ -75,7 +75,7 @@ alias_turn ts x (inl p) =
     named ts p.0 x (λ m. word keyword.As ∷ terminal.name m ∷ []) (λ m. behind_as m) (λ m vs is. as_word ∙ ap (λ (v : List Terminal). word keyword.As ∷ v) is) p.2
 alias_turn ts x (inr p) = bare_turn ts x (phrase.begins_name ts) p.1
 
-alias_sound : (ts : List Terminal) (x : Option (List ℕ) × List Terminal) → rule.alias_at ts ≡ Ok x → TookAlias ts x
+pub alias_sound : (ts : List Terminal) (x : Option (List ℕ) × List Terminal) → rule.alias_at ts ≡ Ok x → TookAlias ts x
 alias_sound ts x e =
     alias_turn ts x (choose_ok (behind (is_keyword keyword.As) ts) (λ (us : List Terminal). phrase.name_at us >>= (λ n. Ok (Some n.0, n.1))) (cond (phrase.begins_name ts) (phrase.name_at ts >>= (λ n. Ok (Some n.0, n.1))) (Ok (None, ts))) x e)
 
@@ -93,7 +93,7 @@ pub record TookItem (n : ℕ) (ts : List Terminal) (x : Item × List Terminal) :
   pub opens : open_in spells ≤ n
   pub bounded : depth item_expr ≤ 128
 
-item_sound : (n : ℕ) (inner : Level → phrase.Reader) → IsInner (suc n) inner → (ts : List Terminal) (x : Item × List Terminal) → rule.item_at inner ts ≡ Ok x → TookItem n ts x
+pub item_sound : (n : ℕ) (inner : Level → phrase.Reader) → IsInner (suc n) inner → (ts : List Terminal) (x : Item × List Terminal) → rule.item_at inner ts ≡ Ok x → TookItem n ts x
 item_sound n inner h ts x e =
     let r = bind_ok (inner level.Disjunction ts) (λ (e : Parsed × List Terminal). rule.alias_at e.1 >>= (λ a. Ok (record { expr = e.0.expr; alias = a.0 }, a.1))) x e in
     let s = bind_ok (rule.alias_at r.0.1) (λ (a : Option (List ℕ) × List Terminal). Ok (record { expr = r.0.0.expr; alias = a.0 }, a.1)) x r.2 in
@@ -158,7 +158,7 @@ items_go (suc m) n inner h before ts p x t e =
     item_turn m n inner h before ts p x t (λ us q t2 e2. items_go m n inner h (before ++ p.0 ∷ []) us q x t2 e2)
     (choose_ok (behind (is_sign sign.Comma) p.1) (λ (us : List Terminal). rule.put_item inner (before ++ p.0 ∷ []) us >>= (λ y. rule.more_items inner m y.0 y.1)) (Ok (before ++ p.0 ∷ [], p.1)) x e)
 
-items_sound : (n : ℕ) (inner : Level → phrase.Reader) → IsInner (suc n) inner → (before : List Item) (ts : List Terminal) (x : List Item × List Terminal) → rule.items_at inner before ts ≡ Ok x → TookItems n before ts x
+pub items_sound : (n : ℕ) (inner : Level → phrase.Reader) → IsInner (suc n) inner → (before : List Item) (ts : List Terminal) (x : List Item × List Terminal) → rule.items_at inner before ts ≡ Ok x → TookItems n before ts x
 items_sound n inner h before ts x e =
     let r = bind_ok (rule.put_item inner before ts) (λ (y : List Item × List Terminal). rule.more_items inner (suc (length y.1)) y.0 y.1) x e in
     let s = bind_ok (rule.item_at inner ts) (λ (y : Item × List Terminal). Ok (before ++ y.0 ∷ [], y.1)) r.0 r.1 in
@@ -173,7 +173,7 @@ pub record TookTable (ts : List Terminal) (x : Table × List Terminal) : Type 0 
   pub spells : SpellsTable front x.0
   pub parts : ts ≡ front ++ x.1
 
-table_sound : (ts : List Terminal) (x : Table × List Terminal) → rule.table_at ts ≡ Ok x → TookTable ts x
+pub table_sound : (ts : List Terminal) (x : Table × List Terminal) → rule.table_at ts ≡ Ok x → TookTable ts x
 table_sound ts x e =
     let r = bind_ok (phrase.name_at ts) (λ (n : List ℕ × List Terminal). rule.alias_at n.1 >>= (λ a. Ok (record { name = n.0; alias = a.0 }, a.1))) x e in
     let s = bind_ok (rule.alias_at r.0.1) (λ (a : Option (List ℕ) × List Terminal). Ok (record { name = r.0.0; alias = a.0 }, a.1)) x r.2 in
@@ -257,7 +257,7 @@ join_turn : (ts : List Terminal) (x : JoinType × List Terminal)
 join_turn ts x (inl p) = past_join_sound keyword.Outer join_type.Left (word keyword.Left ∷ []) ts p.0 x left_join left_outer_join (word_taken keyword.Left ts p.0 p.1) p.2
 join_turn ts x (inr p) = past_join_sound keyword.Inner join_type.Inner [] ts ts x join inner_join refl p.1
 
-join_sound : (ts : List Terminal) (x : JoinType × List Terminal) → rule.join_at ts ≡ Ok x → TookJoin ts x
+pub join_sound : (ts : List Terminal) (x : JoinType × List Terminal) → rule.join_at ts ≡ Ok x → TookJoin ts x
 join_sound ts x e = join_turn ts x (choose_ok (behind (is_keyword keyword.Left) ts) (rule.past_join keyword.Outer join_type.Left) (rule.past_join keyword.Inner join_type.Inner ts) x e)
 
 -- what stands before a table with a condition, and that table
@@ -275,7 +275,7 @@ other_turn : (n : ℕ) (inner : Level → phrase.Reader) → IsInner (suc n) inn
 other_turn n inner h ts x (inl p) = listed_sound n ts p.0 x (mark_taken sign.Comma ts p.0 p.1) p.2
 other_turn n inner h ts x (inr p) = behind_join_sound n inner h ts x p.1
 
-other_sound : (n : ℕ) (inner : Level → phrase.Reader) → IsInner (suc n) inner → (ts : List Terminal) (x : Joined × List Terminal) → rule.other_at inner ts ≡ Ok x → TookOther n ts x
+pub other_sound : (n : ℕ) (inner : Level → phrase.Reader) → IsInner (suc n) inner → (ts : List Terminal) (x : Joined × List Terminal) → rule.other_at inner ts ≡ Ok x → TookOther n ts x
 other_sound n inner h ts x e = other_turn n inner h ts x (choose_ok (behind (is_sign sign.Comma) ts) rule.listed_at (behind_join_at inner ts) x e)
 
 -- a joined table's condition is so deep
@@ -347,7 +347,7 @@ clause_turn n inner h k ts x (inr p) =
     let same : ◌≡◌ {A = Option Expr × List Terminal} (None, ts) x = cc p.1 in
     subst (λ (y : Option Expr × List Terminal). TookClause n k ts y) same (record { front = []; most = 0; spells = no_clause; parts = refl; opens = omega arith; bounded = omega arith })
 
-clause_sound : (n : ℕ) (inner : Level → phrase.Reader) → IsInner (suc n) inner → (k : Keyword) (ts : List Terminal) (x : Option Expr × List Terminal) → rule.clause_at inner k ts ≡ Ok x → TookClause n k ts x
+pub clause_sound : (n : ℕ) (inner : Level → phrase.Reader) → IsInner (suc n) inner → (k : Keyword) (ts : List Terminal) (x : Option Expr × List Terminal) → rule.clause_at inner k ts ≡ Ok x → TookClause n k ts x
 clause_sound n inner h k ts x e = clause_turn n inner h k ts x (choose_ok (behind (is_keyword k) ts) (λ (us : List Terminal). inner level.Disjunction us >>= (λ e. Ok (Some e.0.expr, e.1))) (Ok (None, ts)) x e)
 
 pub record TookGroups (n : ℕ) (ts : List Terminal) (x : List Expr × List Terminal) : Type 0 where
@@ -376,7 +376,7 @@ groups_turn n inner h ts x (inr p) =
     let same : ◌≡◌ {A = List Expr × List Terminal} ([], ts) x = cc p.1 in
     subst (λ (y : List Expr × List Terminal). TookGroups n ts y) same (record { front = []; most = 0; spells = no_groups; parts = refl; opens = omega arith; bounded = omega arith })
 
-groups_sound : (n : ℕ) (inner : Level → phrase.Reader) → IsInner (suc n) inner → (ts : List Terminal) (x : List Expr × List Terminal) → rule.groups_at inner ts ≡ Ok x → TookGroups n ts x
+pub groups_sound : (n : ℕ) (inner : Level → phrase.Reader) → IsInner (suc n) inner → (ts : List Terminal) (x : List Expr × List Terminal) → rule.groups_at inner ts ≡ Ok x → TookGroups n ts x
 groups_sound n inner h ts x e = groups_turn n inner h ts x (choose_ok (behind (is_keyword keyword.Group) ts) (rule.group_keys_at inner []) (Ok ([], ts)) x e)
 
 -- ---- keys
@@ -433,7 +433,7 @@ pub record TookKey (ts : List Terminal) (x : OrderKey × List Terminal) : Type 0
   pub directs : SpellsDirection front toward
   pub parts : ts ≡ first ∷ front ++ x.1
 
-key_sound : (ts : List Terminal) (x : OrderKey × List Terminal) → rule.key_at ts ≡ Ok x → TookKey ts x
+pub key_sound : (ts : List Terminal) (x : OrderKey × List Terminal) → rule.key_at ts ≡ Ok x → TookKey ts x
 key_sound ts x e =
     let r = bind_ok (rule.target_at ts) (λ (t : OrderTarget × List Terminal). Ok (record { target = t.0; direction = (rule.direction_at t.1).0 }, (rule.direction_at t.1).1)) x e in
     let t = target_sound ts r.0 r.1 in
@@ -505,7 +505,7 @@ order_turn ts x (inr p) =
     let same : ◌≡◌ {A = List OrderKey × List Terminal} ([], ts) x = cc p.1 in
     subst (λ (y : List OrderKey × List Terminal). TookOrder ts y) same (record { front = []; spells = no_order; parts = refl })
 
-order_sound : (ts : List Terminal) (x : List OrderKey × List Terminal) → rule.order_at ts ≡ Ok x → TookOrder ts x
+pub order_sound : (ts : List Terminal) (x : List OrderKey × List Terminal) → rule.order_at ts ≡ Ok x → TookOrder ts x
 order_sound ts x e = order_turn ts x (choose_ok (behind (is_keyword keyword.Order) ts) (λ (us : List Terminal). past (is_keyword keyword.By) us >>= rule.keys_at []) (Ok ([], ts)) x e)
 
 -- ---- LIMIT and the end
@@ -527,7 +527,7 @@ limit_turn ts x (inr p) =
     let same : ◌≡◌ {A = Option ℕ × List Terminal} (None, ts) x = cc p.1 in
     subst (λ (y : Option ℕ × List Terminal). TookLimit ts y) same (record { front = []; spells = no_limit; parts = refl })
 
-limit_sound : (ts : List Terminal) (x : Option ℕ × List Terminal) → rule.limit_at ts ≡ Ok x → TookLimit ts x
+pub limit_sound : (ts : List Terminal) (x : Option ℕ × List Terminal) → rule.limit_at ts ≡ Ok x → TookLimit ts x
 limit_sound ts x e = limit_turn ts x (choose_ok (behind (is_keyword keyword.Limit) ts) (λ (us : List Terminal). phrase.integer_at us >>= (λ n. Ok (Some n.0, n.1))) (Ok (None, ts)) x e)
 
 ended_is : (ts : List Terminal) (u : Unit {0}) → rule.ended ts ≡ Ok u → ts ≡ []
@@ -614,7 +614,7 @@ grouping_sound n inner h ts x e =
     (record { front = g.front; most = g.most; spells = g.spells; opens = g.opens; bounded = g.bounded; left = r.0.1; having = having_sound n inner h r.0.1 s.0 s.1; parts = g.parts })
 
 -- what stands behind the tables
-abbrev Conditions : Type 0
+abbrev pub Conditions : Type 0
 Conditions = Option Expr × (List Expr × (Option Expr × rule.Tail))
 
 abbrev TookConditions : ℕ → List Terminal → Conditions → Type 0
@@ -633,7 +633,7 @@ pub record TookSource (n : ℕ) (ts : List Terminal) (x : Source × List Termina
   pub bounded : deepest (map on_depth x.0.others) ≤ 128
   pub parts : ts ≡ word keyword.From ∷ first_front ++ (front ++ x.1)
 
-source_sound : (n : ℕ) (inner : Level → phrase.Reader) → IsInner (suc n) inner → (ts : List Terminal) (x : Source × List Terminal) → rule.source_at inner ts ≡ Ok x → TookSource n ts x
+pub source_sound : (n : ℕ) (inner : Level → phrase.Reader) → IsInner (suc n) inner → (ts : List Terminal) (x : Source × List Terminal) → rule.source_at inner ts ≡ Ok x → TookSource n ts x
 source_sound n inner h ts x e =
     let f = bind_ok (past (is_keyword keyword.From) ts) (λ (us : List Terminal). rule.tables_at inner [] us >>= (λ x. Ok (record { first = x.0.0; others = x.0.1 }, x.1))) x e in
     let r = bind_ok (rule.tables_at inner [] f.0) (λ (x : (Table × List Joined) × List Terminal). Ok (record { first = x.0.0; others = x.0.1 }, x.1)) x f.2 in
@@ -731,7 +731,7 @@ distinct_by : (ts : List Terminal) (o : Option (List Terminal)) → ((us : List 
 distinct_by ts (Some us) taken = taken us refl
 distinct_by ts None taken = refl
 
-distinct_sound : (ts : List Terminal) → ts ≡ distinct_if (rule.distinct_at ts).0 ++ (rule.distinct_at ts).1
+pub distinct_sound : (ts : List Terminal) → ts ≡ distinct_if (rule.distinct_at ts).0 ++ (rule.distinct_at ts).1
 distinct_sound ts = distinct_by ts (behind (is_keyword keyword.Distinct) ts) (λ us e. word_taken keyword.Distinct ts us e)
 
 parts_sound : (n : ℕ) (inner : Level → phrase.Reader) → IsInner (suc n) inner → (ts : List Terminal) (q : Query) → rule.query_at inner ts ≡ Ok q → TookQuery n ts q

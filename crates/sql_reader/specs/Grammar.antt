@@ -1,5 +1,5 @@
 -- Which text has which tree, and where a refusal stands.
-use Rattle.std.specs.Prelude.{◌≡◌, ◌⊎◌, ℕ, ◌-◌, ◌≤◌, ◌<◌, List, [], ◌∷◌, length, drop, Result, Ok, Err, nat_le, if◌then◌else◌}
+use Rattle.std.specs.Prelude.{◌≡◌, ◌⊎◌, ℕ, ◌-◌, ◌≤◌, ◌<◌, List, [], ◌∷◌, ◌++◌, length, drop, Result, Ok, Err, nat_le, if◌then◌else◌}
 use Rattle.std.specs.Str.{IsUtf8}
 use Rattle.meaning.specs.Limits.{max_query_bytes}
 use Rattle.sql_reader.specs.declared.fault.SqlFault.{SqlFault}
@@ -72,6 +72,24 @@ pub record StopsAs (bs : List ℕ) (returned : SqlFault) : Type 0 where
   pub stops : query_at within (terminals (tokens_of bs)) ≡ Err reason
   pub reports : refusal_of (length bs) (tokens_of bs) reason ≡ returned
 
+-- some query begins with these tokens
+abbrev pub IsBeginning : List Terminal → Type 0
+IsBeginning ts = (further : List Terminal) × (q : Query) × SpellsQuery (ts ++ further) q
+
+-- no query goes on with the token at the front behind these, or, at the text's end, ends there
+abbrev pub IsUnexpected : List Terminal → List Located → Type 0
+IsUnexpected before [] = (q : Query) → SpellsQuery before q → ⊥
+IsUnexpected before (p ∷ ps) = IsBeginning (before ++ p.terminal ∷ []) → ⊥
+
+-- the refusal is that of the first token that isn't expected behind those before it, which begin a query; or of the text's end
+pub record IsFirstUnexpected (end : ℕ) (ps : List Located) (returned : SqlFault) : Type 0 where
+  pub front : List Located
+  pub rest : List Located
+  pub parts : ps ≡ front ++ rest
+  pub begins : IsBeginning (terminals front)
+  pub unexpected : IsUnexpected (terminals front) rest
+  pub reports : refusal_at end rest ≡ returned
+
 -- the text has no tree, or one that is too deep, or too many are open in it
 abbrev pub HasNone : List ℕ → Type 0
 HasNone bs = (q : Query) (tree : IsTree bs q) → IsShallow bs q tree → ⊥
@@ -81,4 +99,5 @@ abbrev pub IsRefusal : List ℕ → SqlFault → Type 0
 IsRefusal bs fault.Memory = Unit {0}
 IsRefusal bs fault.TooLong = (max_query_bytes < length bs) ⊎ ((q : Query) × IsTree bs q × (max_query_bytes < length (canonical q)))
 IsRefusal bs fault.NotUtf8 = (length bs ≤ max_query_bytes) × (IsUtf8 bs → ⊥)
-IsRefusal bs returned = (length bs ≤ max_query_bytes) × IsUtf8 bs × HasNone bs × StopsAs bs returned
+IsRefusal bs fault.TooDeep = (length bs ≤ max_query_bytes) × IsUtf8 bs × HasNone bs × StopsAs bs fault.TooDeep
+IsRefusal bs returned = (length bs ≤ max_query_bytes) × IsUtf8 bs × IsFirstUnexpected (length bs) (tokens_of bs) returned × StopsAs bs returned

@@ -21,7 +21,7 @@ pub fn read(alloc: Global, text: &[u8]) -> Result<Query, SqlFault>
     ensures tree { IfOk result (IsWithin text.now) }
     // A text that has a tree within the limits is read, unless memory runs out.
     ensures read { (q : Query) → IsWithin text.now q → GivesQuery q result }
-    // A refusal stands in the text.
+    // A refusal is the first in the text.
     ensures refusal { IfErr result (IsRefusal text.now) }
 {
     if text.len() > MAX_QUERY_BYTES {

@@ -1,22 +1,24 @@
 -- Why no catalogue is made for a folder: the first thing that is wrong, in the order in which one is guessed.
-use Rattle.std.specs.Prelude.{◌≡◌, ◌≢◌, ◌⊎◌, ℕ, ◌+◌, ◌<◌, ◌≤◌, Bool, true, false, ◌&&◌, nat_le, List, [], length, take, get_or, All, Contains, Option, None, Some, Err, ⊤, string_bytes}
+use Rattle.std.specs.Prelude.{◌≡◌, ◌≢◌, ◌⊎◌, ℕ, ◌+◌, ◌<◌, ◌≤◌, Bool, true, false, List, [], length, take, get_or, All, Contains, Option, None, Some, Result, Err, ⊤, string_bytes}
 use Rattle.std.specs.List.{list_any}
 use Rattle.std.specs.List.Sorted.{IsPermutation}
 use Rattle.std.specs.Str.{bytes_eq}
 use Rattle.meaning.specs.declared.catalog.CatalogFault.{CatalogFault}
-use Rattle.meaning.specs.Catalog.{is_name}
-use Rattle.meaning.specs.Limits.{max_dimensions, max_name_bytes}
+use Rattle.meaning.specs.declared.catalog.Column.{Column}
+use Rattle.meaning.specs.declared.catalog.Table.{Table}
+use Rattle.meaning.specs.Limits.{max_dimensions}
 use Rattle.catalog_reader.specs.CatalogText.{catalog_of}
+use Rattle.loader.specs.Source.{csv_records}
 use Rattle.folders.specs.Folder.{Holds, catalog_path, csv_path}
+use Rattle.init.specs.declared.fault.ColumnFault.{ColumnFault}
 use Rattle.init.specs.declared.fault.InitFault.{InitFault}
 use Rattle.init.specs.declared.fault.InitFault.TheVariants as fault
 use Rattle.init.specs.declared.fault.PathFault.TheVariants as path_fault
 use Rattle.init.specs.declared.listing.CsvFile.{CsvFile}
-use Rattle.init.specs.Making.{DeclaresFact}
-use Rattle.init.specs.Refusing.{IsCatalogRefused, IsNotAbsent, IsUnwritten}
-
-abbrev pub is_short_name : List ℕ → Bool
-is_short_name name = is_name name && nat_le (length name) max_name_bytes
+use Rattle.init.specs.Guessed.{AreShown, IsGuess}
+use Rattle.init.specs.Keys.{keys_of}
+use Rattle.init.specs.Refusing.{IsCatalogRefused, IsDimensionRefused, IsNotAbsent, IsUnwritten}
+use Rattle.init.specs.Shown.{IsLack, is_short_name, shown}
 
 -- ---- a table, from its file
 
@@ -27,10 +29,10 @@ IsUnnamed path table (fault.Path file path_fault.NoTableName) = (string_bytes fi
 IsUnnamed path table _ = ⊥
 
 -- memory ran out, or the column of this index has no name of its own
-abbrev pub IsColumnUnnamed : List ℕ → ℕ → InitFault → Type 0
-IsColumnUnnamed path index fault.Memory = ⊤
-IsColumnUnnamed path index (fault.Column file column found) = (string_bytes file ≡ path) × (column ≡ index + 1)
-IsColumnUnnamed path index _ = ⊥
+abbrev pub IsColumnUnnamed : List ℕ → ℕ → Result (List ℕ) ColumnFault → InitFault → Type 0
+IsColumnUnnamed path index meant fault.Memory = ⊤
+IsColumnUnnamed path index meant (fault.Column file column found) = (string_bytes file ≡ path) × (column ≡ index + 1) × (meant ≡ Err found)
+IsColumnUnnamed path index meant _ = ⊥
 
 -- memory ran out, or the file of this path can't be read, or its header is refused
 abbrev pub IsHeaderRefused : List ℕ → InitFault → Type 0
@@ -41,35 +43,38 @@ IsHeaderRefused path (fault.Path file path_fault.TooManyColumns) = string_bytes 
 IsHeaderRefused path (fault.Column file column found) = string_bytes file ≡ path
 IsHeaderRefused path _ = ⊥
 
+-- the same of the file of this path, whose header lacks this where its bytes are known
+abbrev pub IsHeaderLacking : Holds → List ℕ → InitFault → Type 0
+IsHeaderLacking holds path e = IsHeaderRefused path e × ((csv : List ℕ) → holds path ≡ Some csv → IsLack (shown (csv_records csv)) e)
+
 -- the table has no name; or it has one, and its file's header is refused
-abbrev pub IsTableRefused : List ℕ → List ℕ → InitFault → Type 0
-IsTableRefused path table e = IsUnnamed path table e ⊎ ((is_short_name table ≡ true) × IsHeaderRefused path e)
+abbrev pub IsTableRefused : Holds → List ℕ → List ℕ → InitFault → Type 0
+IsTableRefused holds path table e = IsUnnamed path table e ⊎ ((is_short_name table ≡ true) × IsHeaderLacking holds path e)
 
 -- ---- a dimension
 
--- memory ran out, or the file of this path has no key
-abbrev pub IsKeyless : List ℕ → InitFault → Type 0
-IsKeyless path fault.Memory = ⊤
-IsKeyless path (fault.Path file path_fault.NoKey) = string_bytes file ≡ path
-IsKeyless path _ = ⊥
+-- memory ran out, or the file of this path has none of these keys
+abbrev pub IsKeyless : List ℕ → List ℕ → InitFault → Type 0
+IsKeyless path keys fault.Memory = ⊤
+IsKeyless path keys (fault.Path file path_fault.NoKey) = (string_bytes file ≡ path) × (keys ≡ [])
+IsKeyless path keys _ = ⊥
 
--- memory ran out, or the file of this path can't be read, or its records have a fault
-abbrev pub AreRecordsRefused : List ℕ → InitFault → Type 0
-AreRecordsRefused path fault.Memory = ⊤
-AreRecordsRefused path (fault.Path file path_fault.CannotRead) = string_bytes file ≡ path
-AreRecordsRefused path (fault.Table file f) = string_bytes file ≡ path
-AreRecordsRefused path _ = ⊥
+-- memory ran out, or the file of this path can't be read, or its records have a fault, with some column as the key
+abbrev pub AreRecordsRefused : Holds → List ℕ → Table → InitFault → Type 0
+AreRecordsRefused holds path table e = (index : ℕ) × IsDimensionRefused holds path (record { table = table; key = index }) e
 
-abbrev pub IsKeyRefused : List ℕ → InitFault → Type 0
-IsKeyRefused path e = AreRecordsRefused path e ⊎ IsKeyless path e
+-- the table's records are refused, or it has no key
+abbrev pub IsKeyRefused : Holds → List ℕ → Table → InitFault → Type 0
+IsKeyRefused holds path table e = AreRecordsRefused holds path table e ⊎ ((keys : List ℕ) × IsKeyless path keys e × ((csv : List ℕ) → holds path ≡ Some csv → keys ≡ keys_of table (csv_records csv)))
 
 -- memory ran out, or standard error failed
 abbrev pub IsUnreported : InitFault → Type 0
 IsUnreported e = (e ≡ fault.Memory) ⊎ (e ≡ fault.CannotReport)
 
 -- there is no table, or it has no key, or its key can't be said
-abbrev pub IsDimensionUnmade : List ℕ → List ℕ → InitFault → Type 0
-IsDimensionUnmade path table e = IsTableRefused path table e ⊎ ((is_short_name table ≡ true) × (IsKeyRefused path e ⊎ IsUnreported e))
+abbrev pub IsDimensionUnmade : Holds → List ℕ → List ℕ → InitFault → Type 0
+IsDimensionUnmade holds path table e = IsTableRefused holds path table e
+    ⊎ ((is_short_name table ≡ true) × (columns : List Column) × AreShown holds path columns × (IsKeyRefused holds path (record { name = table; columns = columns }) e ⊎ IsUnreported e))
 
 -- ---- the files
 
@@ -114,22 +119,26 @@ IsFactUnfound asked files folder (fault.Path file path_fault.NoFile) = (asked �
 IsFactUnfound asked files folder _ = ⊥
 
 -- memory ran out, or one of the files but the fact's makes no dimension
-abbrev pub AreDimensionsUnmade : List ℕ → List CsvFile → List ℕ → InitFault → Type 0
-AreDimensionsUnmade folder files fact e = (e ≡ fault.Memory)
-    ⊎ ((file : CsvFile) × Contains files file × (string_bytes file.table ≢ fact) × IsDimensionUnmade (csv_path folder (string_bytes file.table)) (string_bytes file.table) e)
+abbrev pub AreDimensionsUnmade : Holds → List ℕ → List CsvFile → List ℕ → InitFault → Type 0
+AreDimensionsUnmade holds folder files fact e = (e ≡ fault.Memory)
+    ⊎ ((file : CsvFile) × Contains files file × (string_bytes file.table ≢ fact) × IsDimensionUnmade holds (csv_path folder (string_bytes file.table)) (string_bytes file.table) e)
 
 -- the fact's file makes no table, or a file makes no dimension
-abbrev pub IsTextUnmade : List ℕ → List CsvFile → List ℕ → InitFault → Type 0
-IsTextUnmade folder files fact e = IsTableRefused (csv_path folder fact) fact e ⊎ AreDimensionsUnmade folder files fact e
+abbrev pub IsTextUnmade : Holds → List ℕ → List CsvFile → List ℕ → InitFault → Type 0
+IsTextUnmade holds folder files fact e = IsTableRefused holds (csv_path folder fact) fact e ⊎ AreDimensionsUnmade holds folder files fact e
 
 -- memory ran out, or the text is no catalogue
 abbrev pub IsNoCatalog : List ℕ → InitFault → Type 0
 IsNoCatalog text e = (e ≡ fault.Memory) ⊎ ((f : CatalogFault) × (catalog_of text ≡ Err f) × (e ≡ fault.Catalog f))
 
--- no text was made; or the one that was is no catalogue; or the files don't load under it, whose fact is this one
+-- no text was made; or the one that was is no catalogue
+abbrev pub IsTextUndeclared : Holds → List ℕ → List CsvFile → List ℕ → InitFault → Type 0
+IsTextUndeclared holds folder files fact e = IsTextUnmade holds folder files fact e ⊎ ((text : List ℕ) × IsNoCatalog text e)
+
+-- no text declares the files' tables; or one does, and the files don't load under it
 abbrev pub IsTextRefused : Holds → List ℕ → List CsvFile → List ℕ → InitFault → Type 0
-IsTextRefused holds folder files fact e = IsTextUnmade folder files fact e
-    ⊎ ((text : List ℕ) × (IsNoCatalog text e ⊎ (DeclaresFact fact text × IsCatalogRefused holds folder text e)))
+IsTextRefused holds folder files fact e = IsTextUndeclared holds folder files fact e
+    ⊎ ((text : List ℕ) × IsGuess holds folder files fact text × IsCatalogRefused holds folder text e)
 
 -- ---- all of them
 
@@ -147,13 +156,14 @@ IsGuessRefusedOf holds folder asked files e = IsFactUnfound asked files folder e
 abbrev pub IsGuessRefused : Holds → (List ℕ → List CsvFile → Type 0) → (List ℕ → Type 0) → List ℕ → Option (List ℕ) → InitFault → Type 0
 IsGuessRefused holds lists hides folder asked e = IsUnlisted hides folder e ⊎ ((files : List CsvFile) × IsListed lists folder files × IsGuessRefusedOf holds folder asked files e)
 
--- the files under which a catalogue is made: not too many, and the fact's is among them
-pub record IsGuessable (lists : List ℕ → List CsvFile → Type 0) (folder : List ℕ) (asked : Option (List ℕ)) : Type 0 where
+-- the text declares the tables of the folder's files, which are not too many, and of which one is the fact's
+pub record IsGuessable (holds : Holds) (lists : List ℕ → List CsvFile → Type 0) (folder : List ℕ) (asked : Option (List ℕ)) (text : List ℕ) : Type 0 where
   pub files : List CsvFile
   pub listed : IsListed lists folder files
   pub few : length files ≤ max_dimensions + 1
   pub fact : List ℕ
   pub is_fact : IsFactOf asked files fact
+  pub guess : IsGuess holds folder files fact text
 
 -- there is a catalogue, or there may be one; or there is none, and none is guessed, or it can't be written
 abbrev pub IsMakeRefused : Holds → (List ℕ → Type 0) → (List ℕ → Type 0) → (List ℕ → List CsvFile → Type 0) → (List ℕ → Type 0) → List ℕ → Option (List ℕ) → InitFault → Type 0

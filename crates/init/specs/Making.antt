@@ -2,6 +2,7 @@
 use Rattle.std.specs.Prelude.{◌≡◌, ℕ, List, length, drop, sum, Option, None, Some, Result, Ok, All, ⊤}
 use Rattle.meaning.specs.declared.catalog.Catalog.{Catalog}
 use Rattle.meaning.specs.declared.catalog.Dimension.{Dimension}
+use Rattle.meaning.specs.declared.catalog.Table.{Table}
 use Rattle.meaning.specs.declared.table.TableFault.{TableFault}
 use Rattle.meaning.specs.Cut.{Cut}
 use Rattle.meaning.specs.Order.{Row}
@@ -28,6 +29,10 @@ IsFactFit holds folder catalog = (csv : List ℕ) → holds (csv_path folder cat
 -- the same of a dimension's
 abbrev pub IsDimensionFit : Holds → List ℕ → Dimension → Type 0
 IsDimensionFit holds folder dimension = (csv : List ℕ) → holds (csv_path folder dimension.table.name) ≡ Some csv → IsDimension dimension (csv_records csv)
+
+-- the text declares a catalogue of these tables
+abbrev pub Declares : Table → List Dimension → List ℕ → Type 0
+Declares fact dims text = (catalog : Catalog) × (catalog_of text ≡ Ok catalog) × (catalog.fact ≡ fact) × (catalog.dims ≡ dims)
 
 -- the text declares a catalogue whose fact has this name
 abbrev pub DeclaresFact : List ℕ → List ℕ → Type 0

@@ -1,5 +1,5 @@
 //! Whether a folder's files load under a catalogue.
-ghost use Rattle.std.specs.Prelude.{◌≡◌, ◌≤◌, ℕ, List, All, IfErr, IfOk, IfSome, OnOk, Err, Result, Some, length, drop, sum};
+ghost use Rattle.std.specs.Prelude.{◌≡◌, ◌≤◌, ℕ, List, All, IfErr, IfOk, IfSome, OnOk, Err, Result, Some, length, drop, map, sum};
 ghost use Rattle.meaning.specs.declared.table.TableFault.{TableFault as Fault};
 ghost use Rattle.meaning.specs.Records.{dimension_of};
 ghost use Rattle.columns.specs.Column.{ColumnSpec};
@@ -9,14 +9,16 @@ ghost use Rattle.loader.specs.Handing.{IsToCome};
 ghost use Rattle.loader.specs.Source.{csv_records};
 ghost use Rattle.folders.specs.Folder.{HasHeld, csv_path};
 ghost use Rattle.init.specs.Guessing.{IsNoCatalog};
-ghost use Rattle.init.specs.Making.{AreColumns, DeclaresFact, IsCatalogFor, IsDimension, IsDimensionFit, IsFact, IsFactFit};
+ghost use Rattle.init.specs.Making.{AreColumns, Declares, IsCatalogFor, IsDimension, IsDimensionFit, IsFact, IsFactFit};
 ghost use Rattle.init.specs.Refusing.{AreTablesRefused, IsAskedFor, IsCatalogRefused, IsDimensionRefused, IsFactRefused, IsFirstRefused, IsUncounted, IsUnread};
 
+use crate::agreeing::has_tables;
 use crate::fault::{InitFault, PathFault, of_load, of_path};
+use crate::keys::Keyed;
 use catalog_reader::read_catalog;
 use folders::{Folder, csv_path, open_file};
 use loader::{FactReader, LoadFault, count_rows, load_dimension, open_fact};
-use meaning::{Catalog, Cut, Dimension, MAX_ROWS, Text};
+use meaning::{Catalog, Cut, Dimension, MAX_ROWS, Table, Text};
 use std::alloc::Global;
 use std::io::Read;
 use std::mem::drop;
@@ -231,21 +233,26 @@ fn check_tables<F: Folder>(
     check_dimensions(alloc, folder, directory, catalog.dims.as_slice())
 }
 
-// Refuses a text whose catalogue has another fact.
-pub fn check_fact_name(alloc: Global, text: &[u8], name: &str) -> Result<(), InitFault>
-    ensures named { OnOk result (DeclaresFact name.now text.now) }
+// Refuses a text whose catalogue has other tables.
+pub fn check_declared(
+    alloc: Global,
+    text: &[u8],
+    fact: &Table,
+    dims: &[Keyed],
+) -> Result<(), InitFault>
+    ensures declared { OnOk result (Declares fact.now (map (λ keyed. keyed.dimension) dims.now) text.now) }
     ensures refused { IfErr result (IsNoCatalog text.now) }
 {
     let catalog = match read_catalog(alloc, text) {
         Ok(catalog) => catalog,
         Err(fault) => return Err(InitFault::from(fault)),
     };
-    let is_named = catalog.fact.name.as_str() == name;
+    let is_declared = has_tables(&catalog, fact, dims);
     drop(catalog);
-    if is_named {
+    if is_declared {
         Ok(())
     } else {
-        // No text is made with another.
+        // No text is made with others.
         Err(InitFault::Memory)
     }
 }

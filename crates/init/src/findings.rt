@@ -1,5 +1,6 @@
 //! What the fields of a column show of its type.
-ghost use Rattle.std.specs.Prelude.{◌≡◌};
+ghost use Rattle.std.specs.Prelude.{◌≡◌, if◌then◌else◌};
+ghost use Rattle.meaning.specs.declared.value.ColType.TheVariants as of_type;
 ghost use Rattle.meaning.specs.Records as records;
 ghost use Rattle.init.specs.Findings.{shows_integer, with_field};
 
@@ -59,7 +60,9 @@ impl Findings {
     }
 
     /// The type of a column that has such fields.
-    pub fn col_type(self) -> ColType {
+    pub fn col_type(self) -> ColType
+        ensures { result ≡ (if self.integers then of_type.Int else of_type.Text) }
+    {
         if self.integers {
             ColType::Int
         } else {

@@ -1,8 +1,11 @@
 //! The columns that may be the key of a dimension.
-ghost use Rattle.std.specs.Prelude.{IfErr};
+ghost use Rattle.std.specs.Prelude.{◌≡◌, ◌∷◌, ℕ, List, slice_get, Some, is_ok, IfErr, IfOk, OnOk};
+ghost use Rattle.meaning.specs.Records.{dimension_of};
+ghost use Rattle.loader.specs.Source.{csv_records};
 ghost use Rattle.folders.specs.Folder.{csv_path};
 ghost use Rattle.init.specs.Guessing.{AreRecordsRefused, IsKeyless, IsKeyRefused};
-ghost use Rattle.init.specs.Refusing.{IsAskedFor};
+ghost use Rattle.init.specs.Keys.{is_nullable, keys_of};
+ghost use Rattle.init.specs.Refusing.{IsAskedFor, IsDimensionRefused};
 
 use crate::checking::opened;
 use crate::fault::{InitFault, PathFault, of_load, of_path};
@@ -27,7 +30,10 @@ fn has_key<F: Folder>(
     path: &Text,
     dimension: &Dimension,
 ) -> Result<bool, InitFault>
-    ensures refused { IfErr result (AreRecordsRefused path.now) }
+    ensures found { IfOk result (λ found. (csv : List ℕ) → F.holds folder.now path.now ≡ Some csv
+        → found ≡ is_ok (dimension_of dimension.now (csv_records csv))) }
+    ensures refused { IfErr result
+        (IsDimensionRefused (F.holds folder.now) path.now dimension.now) }
     ensures unread { IfErr result (IsAskedFor (F.asks folder.now)) }
 {
     let file = opened(folder, path)?;
@@ -38,7 +44,9 @@ fn has_key<F: Folder>(
     }
 }
 
-fn takes_null(table: &Table, index: usize) -> bool {
+fn takes_null(table: &Table, index: usize) -> bool
+    ensures { result ≡ is_nullable (slice_get table.now.columns index) }
+{
     match table.columns.get(index) {
         Some(column) => column.nullable,
         None => true,
@@ -52,7 +60,11 @@ fn keys_of<F: Folder>(
     path: &Text,
     dimension: &mut Dimension,
 ) -> Result<Vec<usize>, InitFault>
-    ensures refused { IfErr result (AreRecordsRefused path.now) }
+    ensures table { OnOk result (dimension.new.table ≡ dimension.old.table) }
+    ensures keys { IfOk result (λ keys. (csv : List ℕ) → F.holds folder.now path.now ≡ Some csv
+        → keys.items ≡ keys_of dimension.old.table (csv_records csv)) }
+    ensures refused { IfErr result
+        (AreRecordsRefused (F.holds folder.now) path.now dimension.old.table) }
     ensures unread { IfErr result (IsAskedFor (F.asks folder.now)) }
 {
     let mut keys = Vec::new(alloc);
@@ -75,7 +87,10 @@ fn with_first(
     dimension: Dimension,
     keys: Vec<usize>,
 ) -> Result<Keyed, InitFault>
-    ensures { IfErr result (IsKeyless path.now) }
+    ensures table { IfOk result (λ keyed. keyed.dimension.table ≡ dimension.table) }
+    ensures key { IfOk result
+        (λ keyed. keyed.dimension.key ∷ keyed.others.items ≡ keys.items) }
+    ensures refused { IfErr result (λ e. IsKeyless path.now keys.items e) }
 {
     let mut dimension = dimension;
     let mut others = keys;
@@ -94,7 +109,11 @@ fn with_key_of<F: Folder>(
     path: &Text,
     dimension: Dimension,
 ) -> Result<Keyed, InitFault>
-    ensures refused { IfErr result (IsKeyRefused path.now) }
+    ensures table { IfOk result (λ keyed. keyed.dimension.table ≡ dimension.table) }
+    ensures key { IfOk result (λ keyed. (csv : List ℕ) → F.holds folder.now path.now ≡ Some csv
+        → keyed.dimension.key ∷ keyed.others.items ≡ keys_of dimension.table (csv_records csv)) }
+    ensures refused { IfErr result
+        (IsKeyRefused (F.holds folder.now) path.now dimension.table) }
     ensures unread { IfErr result (IsAskedFor (F.asks folder.now)) }
 {
     let mut dimension = dimension;
@@ -120,7 +139,12 @@ pub fn with_key<F: Folder>(
     directory: &str,
     table: Table,
 ) -> Result<Keyed, InitFault>
-    ensures refused { IfErr result (IsKeyRefused (csv_path directory.now table.name)) }
+    ensures table { IfOk result (λ keyed. keyed.dimension.table ≡ table) }
+    ensures key { IfOk result (λ keyed. (csv : List ℕ)
+        → F.holds folder.now (csv_path directory.now table.name) ≡ Some csv
+        → keyed.dimension.key ∷ keyed.others.items ≡ keys_of table (csv_records csv)) }
+    ensures refused { IfErr result
+        (IsKeyRefused (F.holds folder.now) (csv_path directory.now table.name) table) }
     ensures unread { IfErr result (IsAskedFor (F.asks folder.now)) }
 {
     match csv_path(alloc, directory, table.name.as_str()) {

@@ -1,6 +1,7 @@
 //! A catalogue for the CSV files of a folder, made from what stands in them.
 #![tactic(auto)]
 
+mod agreeing;
 mod checking;
 mod choosing;
 mod fault;

@@ -1,11 +1,13 @@
 //! The catalogue of a folder's CSV files.
-ghost use Rattle.std.specs.Prelude.{◌≡◌, true, ℕ, List, IfErr, IfOk, IfSome, OnErr, OnOk, option_map};
+ghost use Rattle.std.specs.Prelude.{◌≡◌, ◌⊎◌, true, ℕ, List, [], map, string_bytes, IfErr, IfOk, IfSome, OnErr, OnOk, option_map};
 ghost use Rattle.folders.specs.Folder.{WritesOne, catalog_path, csv_path};
-ghost use Rattle.init.specs.Guessing.{AreDimensionsUnmade, IsAskedOrHidden, IsDimensionUnmade, IsFactOf, IsFactUnfound, IsGuessable, IsGuessRefused, IsListed, IsMakeRefused, IsTableRefused, IsTextRefused, IsTextUnmade, IsUnlisted, is_short_name};
-ghost use Rattle.init.specs.Making.{DeclaresFact, IsAsAsked, IsCatalogFor};
+ghost use Rattle.init.specs.Guessed.{AreDimensionsOf, AreShown, DeclaresFiles, IsFirstKey, IsGuess, others};
+ghost use Rattle.init.specs.Guessing.{AreDimensionsUnmade, IsAskedOrHidden, IsDimensionUnmade, IsFactOf, IsFactUnfound, IsGuessable, IsGuessRefused, IsListed, IsMakeRefused, IsNoCatalog, IsTableRefused, IsTextRefused, IsTextUndeclared, IsUnlisted};
+ghost use Rattle.init.specs.Making.{Declares, IsAsAsked, IsCatalogFor};
 ghost use Rattle.init.specs.Refusing.{IsAskedFor, IsNotAbsent, IsTriedFor, IsUnwritten};
+ghost use Rattle.init.specs.Shown.{is_short_name};
 
-use crate::checking::{check_catalog, check_fact_name, opened};
+use crate::checking::{check_catalog, check_declared, opened};
 use crate::choosing::{has_file, largest};
 use crate::fault::{InitFault, PathFault, of_path};
 use crate::keys::{Keyed, with_key};
@@ -45,13 +47,14 @@ fn table_at<F: Folder>(
 ) -> Result<Table, InitFault>
     ensures named { IfOk result (λ made. made.name ≡ table.now) }
     ensures short { OnOk result (is_short_name table.now ≡ true) }
-    ensures refused { IfErr result (IsTableRefused path.now table.now) }
+    ensures shown { IfOk result (λ made. AreShown (F.holds folder.now) path.now made.columns) }
+    ensures refused { IfErr result (IsTableRefused (F.holds folder.now) path.now table.now) }
     ensures unread { IfErr result (IsAskedFor (F.asks folder.now)) }
 {
     check_table_name(alloc, path.as_str(), table)?;
     let name = Text::new(alloc, table)?;
     let file = opened(folder, path)?;
-    read_table(alloc, path.as_str(), name, file)
+    read_table(alloc, path, name, file)
 }
 
 // The table of a file.
@@ -63,7 +66,10 @@ fn table_of<F: Folder>(
 ) -> Result<Table, InitFault>
     ensures named { IfOk result (λ made. made.name ≡ table.now) }
     ensures short { OnOk result (is_short_name table.now ≡ true) }
-    ensures refused { IfErr result (IsTableRefused (csv_path directory.now table.now) table.now) }
+    ensures shown { IfOk result
+        (λ made. AreShown (F.holds folder.now) (csv_path directory.now table.now) made.columns) }
+    ensures refused { IfErr result
+        (IsTableRefused (F.holds folder.now) (csv_path directory.now table.now) table.now) }
     ensures unread { IfErr result (IsAskedFor (F.asks folder.now)) }
 {
     let path = csv_path(alloc, directory, table)?;
@@ -78,7 +84,12 @@ fn dimension_of<F: Folder, E: Write>(
     table: &str,
     err: &mut E,
 ) -> Result<Keyed, InitFault>
-    ensures refused { IfErr result (IsDimensionUnmade (csv_path directory.now table.now) table.now) }
+    ensures made { IfOk result (λ keyed. (keyed.dimension.table.name ≡ table.now)
+        × AreShown (F.holds folder.now) (csv_path directory.now table.now)
+        keyed.dimension.table.columns
+        × IsFirstKey (F.holds folder.now) (csv_path directory.now table.now) keyed.dimension) }
+    ensures refused { IfErr result
+        (IsDimensionUnmade (F.holds folder.now) (csv_path directory.now table.now) table.now) }
     ensures unread { IfErr result (IsAskedFor (F.asks folder.now)) }
 {
     let table = table_of(alloc, folder, directory, table)?;
@@ -101,7 +112,11 @@ fn add_dimensions<F: Folder, E: Write>(
     dims: &mut Vec<Keyed>,
     err: &mut E,
 ) -> Result<(), InitFault>
-    ensures refused { IfErr result (AreDimensionsUnmade directory.now files.now fact.now) }
+    ensures made { OnOk result ((dims.old.items ≡ [])
+        → AreDimensionsOf (F.holds folder.now) directory.now (others fact.now files.now)
+        (map (λ keyed. keyed.dimension) dims.new.items)) }
+    ensures refused { IfErr result
+        (AreDimensionsUnmade (F.holds folder.now) directory.now files.now fact.now) }
     ensures unread { IfErr result (IsAskedFor (F.asks folder.now)) }
 {
     for file in files {
@@ -123,7 +138,11 @@ fn dimensions_of<F: Folder, E: Write>(
     fact: &str,
     err: &mut E,
 ) -> Result<Vec<Keyed>, InitFault>
-    ensures refused { IfErr result (AreDimensionsUnmade directory.now files.now fact.now) }
+    ensures made { IfOk result
+        (λ dims. AreDimensionsOf (F.holds folder.now) directory.now (others fact.now files.now)
+        (map (λ keyed. keyed.dimension) dims.items)) }
+    ensures refused { IfErr result
+        (AreDimensionsUnmade (F.holds folder.now) directory.now files.now fact.now) }
     ensures unread { IfErr result (IsAskedFor (F.asks folder.now)) }
 {
     let mut dims = Vec::new(alloc);
@@ -170,6 +189,22 @@ fn fact_of<'a, E: Write>(
     }
 }
 
+// The text of a catalogue that has these tables.
+fn text_of(alloc: Global, fact: &Table, dims: &[Keyed]) -> Result<String, InitFault>
+    ensures declared { IfOk result
+        (λ text. Declares fact.now (map (λ keyed. keyed.dimension) dims.now) (string_bytes text)) }
+    ensures refused { IfErr result (λ e. (text : List ℕ) × IsNoCatalog text e) }
+{
+    let text = catalog_text(alloc, fact, dims)?;
+    match check_declared(alloc, text.as_bytes(), fact, dims) {
+        Ok(()) => Ok(text),
+        Err(fault) => {
+            drop(text);
+            Err(fault)
+        }
+    }
+}
+
 // The text of a catalogue with this fact and the dimensions of all other files.
 fn text_with<F: Folder, E: Write>(
     alloc: Global,
@@ -179,11 +214,18 @@ fn text_with<F: Folder, E: Write>(
     fact: &Table,
     err: &mut E,
 ) -> Result<String, InitFault>
-    ensures refused { IfErr result (AreDimensionsUnmade directory.now files.now fact.now.name) }
+    ensures declared { IfOk result
+        (λ text. DeclaresFiles (F.holds folder.now) directory.now files.now fact.now
+        (string_bytes text)) }
+    ensures refused { IfErr result
+        (λ e. AreDimensionsUnmade (F.holds folder.now) directory.now files.now fact.now.name e
+        ⊎ ((text : List ℕ) × IsNoCatalog text e)) }
     ensures unread { IfErr result (IsAskedFor (F.asks folder.now)) }
 {
     let dims = dimensions_of(alloc, folder, directory, files, fact.name.as_str(), err)?;
-    Ok(catalog_text(alloc, fact, dims.as_slice())?)
+    let text = text_of(alloc, fact, dims.as_slice());
+    drop(dims);
+    text
 }
 
 fn text_for<F: Folder, E: Write>(
@@ -194,7 +236,11 @@ fn text_for<F: Folder, E: Write>(
     fact: &str,
     err: &mut E,
 ) -> Result<String, InitFault>
-    ensures refused { IfErr result (IsTextUnmade directory.now files.now fact.now) }
+    ensures guess { IfOk result
+        (λ text. IsGuess (F.holds folder.now) directory.now files.now fact.now
+        (string_bytes text)) }
+    ensures refused { IfErr result
+        (IsTextUndeclared (F.holds folder.now) directory.now files.now fact.now) }
     ensures unread { IfErr result (IsAskedFor (F.asks folder.now)) }
 {
     let table = table_of(alloc, folder, directory, fact)?;
@@ -213,13 +259,13 @@ fn checked_text<F: Folder, E: Write>(
     err: &mut E,
 ) -> Result<Text, InitFault>
     ensures fit { IfOk result (IsCatalogFor (F.holds folder.now) directory.now) }
-    ensures named { IfOk result (DeclaresFact fact.now) }
+    ensures guess { IfOk result
+        (IsGuess (F.holds folder.now) directory.now files.now fact.now) }
     ensures refused { IfErr result
         (IsTextRefused (F.holds folder.now) directory.now files.now fact.now) }
     ensures unread { IfErr result (IsAskedFor (F.asks folder.now)) }
 {
     let text = text_for(alloc, folder, directory, files, fact, err)?;
-    check_fact_name(alloc, text.as_bytes(), fact)?;
     check_catalog(alloc, folder, directory, text.as_bytes())?;
     Ok(Text::from_string(text))
 }
@@ -240,8 +286,8 @@ pub fn guess_catalog<F: Folder + Listing, E: Write>(
 ) -> Result<Text, InitFault>
     ensures fit { IfOk result (IsCatalogFor (F.holds folder.now) directory.now) }
     ensures named { IfOk result (IsAsAsked (option_map (λ fact. fact.now) fact.entry)) }
-    ensures guessable { OnOk result
-        (IsGuessable (F.lists folder.now) directory.now
+    ensures guessable { IfOk result
+        (IsGuessable (F.holds folder.now) (F.lists folder.now) directory.now
         (option_map (λ fact. fact.now) fact.entry)) }
     ensures refused { IfErr result
         (IsGuessRefused (F.holds folder.now) (F.lists folder.now) (F.hides folder.now)
@@ -304,11 +350,10 @@ pub fn make_catalog<F: Folder + Listing, E: Write>(
     ensures made { OnOk result ((text : List ℕ)
         × IsCatalogFor (F.holds folder.old) directory.now text
         × IsAsAsked (option_map (λ fact. fact.now) fact.entry) text
+        × IsGuessable (F.holds folder.old) (F.lists folder.old) directory.now
+        (option_map (λ fact. fact.now) fact.entry) text
         × WritesOne (catalog_path directory.now) (λ given. given ≡ text) (F.wrote folder.old)
         (F.wrote folder.new)) }
-    ensures guessable { OnOk result
-        (IsGuessable (F.lists folder.old) directory.now
-        (option_map (λ fact. fact.now) fact.entry)) }
     ensures refused { IfErr result
         (IsMakeRefused (F.holds folder.old) (F.opens folder.old) (F.lacks folder.old)
         (F.lists folder.old) (F.hides folder.old) directory.now (option_map (λ fact. fact.now) fact.entry)) }

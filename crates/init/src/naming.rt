@@ -1,6 +1,7 @@
 //! The names that a catalogue takes.
-ghost use Rattle.std.specs.Prelude.{◌≡◌, ◌<◌, true, IfErr, OnOk};
-ghost use Rattle.init.specs.Guessing.{IsColumnUnnamed, IsUnnamed, is_short_name};
+ghost use Rattle.std.specs.Prelude.{◌≡◌, ◌<◌, true, Err, Ok, IfErr, IfOk, OnOk};
+ghost use Rattle.init.specs.Guessing.{IsColumnUnnamed, IsUnnamed};
+ghost use Rattle.init.specs.Shown.{has_name, is_short_name, name_of, named};
 
 use crate::fault::{ColumnFault, InitFault, PathFault, of_path};
 use meaning::{MAX_NAME_BYTES, Text, is_name, text_of};
@@ -24,7 +25,9 @@ pub fn check_table_name(alloc: Global, file: &str, table: &str) -> Result<(), In
 }
 
 // The field in lower case, if it is a name.
-fn name_in(alloc: Global, field: &[u8]) -> Result<Option<Text>, AllocError> {
+fn name_in(alloc: Global, field: &[u8]) -> Result<Option<Text>, AllocError>
+    ensures { IfOk result (λ name. name ≡ name_of field.now) }
+{
     let Some(text) = text_of(field) else {
         return Ok(None);
     };
@@ -33,6 +36,27 @@ fn name_in(alloc: Global, field: &[u8]) -> Result<Option<Text>, AllocError> {
         return Ok(None);
     }
     Ok(Some(name))
+}
+
+fn has_name(names: &[Text], name: &Text) -> bool
+    ensures { result ≡ has_name names.now name.now }
+{
+    names.iter().any(|other| *other == *name)
+}
+
+// What is wrong with the name of the column with this index.
+fn misnamed(alloc: Global, file: &str, index: usize, fault: ColumnFault) -> InitFault
+    requires { index < usize.MAX }
+    ensures { IsColumnUnnamed file.now index (Err fault) result }
+{
+    match String::from_str(alloc, file) {
+        Ok(file) => InitFault::Column {
+            file,
+            column: index + 1,
+            fault,
+        },
+        Err(AllocError) => InitFault::Memory,
+    }
 }
 
 /// The name of the column with this index, which is none of those before it.
@@ -44,23 +68,14 @@ pub fn column_name(
     field: &[u8],
 ) -> Result<Text, InitFault>
     requires { index < usize.MAX }
-    ensures { IfErr result (IsColumnUnnamed file.now index) }
+    ensures named { IfOk result (λ name. named before.now field.now ≡ Ok name) }
+    ensures refused { IfErr result (IsColumnUnnamed file.now index (named before.now field.now)) }
 {
     let Some(name) = name_in(alloc, field)? else {
-        let file = String::from_str(alloc, file)?;
-        return Err(InitFault::Column {
-            file,
-            column: index + 1,
-            fault: ColumnFault::NoName,
-        });
+        return Err(misnamed(alloc, file, index, ColumnFault::NoName));
     };
-    if before.iter().any(|other| *other == name) {
-        let file = String::from_str(alloc, file)?;
-        return Err(InitFault::Column {
-            file,
-            column: index + 1,
-            fault: ColumnFault::NameTwice,
-        });
+    if has_name(before, &name) {
+        return Err(misnamed(alloc, file, index, ColumnFault::NameTwice));
     }
     Ok(name)
 }

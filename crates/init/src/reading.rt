@@ -1,55 +1,55 @@
 //! A table as its CSV file shows it.
-ghost use Rattle.std.specs.Prelude.{◌≡◌, IfErr, IfOk};
+ghost use Rattle.std.specs.Prelude.{◌≡◌, ◌∷◌, [], ℕ, List, length, option_map, slice_get, ◌++◌, Ok, Some, IfErr, IfOk, OnOk};
+ghost use Rattle.csv.specs.Records.{fields_of};
+ghost use Rattle.meaning.specs.Records.{Record};
+ghost use Rattle.loader.specs.Source.{IsLeft, TakesNext, csv_records};
+ghost use Rattle.init.specs.Findings.{with_field_if};
 ghost use Rattle.init.specs.Guessing.{IsHeaderRefused};
 ghost use Rattle.init.specs.Refusing.{IsUnread};
+ghost use Rattle.init.specs.Shown.{IsLack, column_of, columns_of, found_in, names_from, names_of, shown};
 
-use crate::fault::{InitFault, PathFault, of_path};
+use crate::fault::{InitFault, PathFault, of_load, of_path};
 use crate::findings::Findings;
 use crate::naming::column_name;
-use csv::{ByteRecord, Error, ErrorKind, Reader, ReaderBuilder};
+use csv::{ByteRecord, Reader};
+use loader::{csv_reader, next_record};
 use meaning::{Column, MAX_COLUMNS, Sequence, Table, Text};
 use std::alloc::{AllocError, Global};
 use std::io::Read;
 use std::mem::drop;
 
-// As a load reads it.
-fn csv_reader<R: Read>(alloc: Global, reader: R) -> Reader<R> {
-    ReaderBuilder::new()
-        .has_headers(false)
-        .flexible(true)
-        .from_reader(alloc, reader)
-}
-
-fn fault_of(alloc: Global, file: &str, error: Error) -> InitFault
-    ensures { IsUnread file.now result }
-{
-    match error.kind() {
-        ErrorKind::Io(_) => of_path(alloc, file, PathFault::CannotRead),
-        _ => InitFault::Memory,
-    }
-}
-
 // The next record into `row`, and whether there was one.
-fn next_record<R: Read>(
+fn next_row<R: Read>(
     alloc: Global,
-    file: &str,
+    file: &Text,
     reader: &mut Reader<R>,
     row: &mut ByteRecord,
 ) -> Result<bool, InitFault>
-    ensures { IfErr result (IsUnread file.now) }
+    ensures taken { IfOk result (λ found. (rest : List Record) → IsLeft R.remaining reader.old rest
+        → TakesNext R.remaining reader.new rest found (fields_of row.new)) }
+    ensures refused { IfErr result (IsUnread file.now) }
 {
-    match reader.read_byte_record(row) {
+    match next_record(reader, row) {
         Ok(found) => Ok(found),
-        Err(error) => Err(fault_of(alloc, file, error)),
+        Err(fault) => Err(of_load(alloc, file, fault)),
     }
 }
 
+// A field, by its index.
+fn field_at(row: &ByteRecord, index: usize) -> Option<&[u8]>
+    ensures { option_map (λ field. field.now) result ≡ slice_get (fields_of row.now) index }
+{
+    row.get(index)
+}
+
 fn names_in(alloc: Global, file: &str, header: &ByteRecord) -> Result<Vec<Text>, InitFault>
-    ensures { IfErr result (IsHeaderRefused file.now) }
+    ensures named { IfOk result (λ names. names_from [] (fields_of header.now) ≡ Ok names.items) }
+    ensures refused { IfErr result (IsHeaderRefused file.now) }
+    ensures lacking { IfErr result (IsLack (names_from [] (fields_of header.now))) }
 {
     let mut names = Vec::new(alloc);
     for index in 0..header.len() {
-        let Some(field) = header.get(index) else {
+        let Some(field) = field_at(header, index) else {
             break;
         };
         let name = column_name(alloc, file, names.as_slice(), index, field)?;
@@ -58,74 +58,117 @@ fn names_in(alloc: Global, file: &str, header: &ByteRecord) -> Result<Vec<Text>,
     Ok(names)
 }
 
+// The names of the columns, as a header has them.
+fn names_of(alloc: Global, file: &str, header: &ByteRecord) -> Result<Vec<Text>, InitFault>
+    ensures named { IfOk result (λ names. names_of (fields_of header.now) ≡ Ok names.items) }
+    ensures refused { IfErr result (IsHeaderRefused file.now) }
+    ensures lacking { IfErr result (IsLack (names_of (fields_of header.now))) }
+{
+    if header.len() > MAX_COLUMNS {
+        return Err(of_path(alloc, file, PathFault::TooManyColumns));
+    }
+    names_in(alloc, file, header)
+}
+
 // The names of the columns, as the first record has them.
 fn read_names<R: Read>(
     alloc: Global,
-    file: &str,
+    file: &Text,
     reader: &mut Reader<R>,
     row: &mut ByteRecord,
 ) -> Result<Vec<Text>, InitFault>
-    ensures { IfErr result (IsHeaderRefused file.now) }
+    ensures named { IfOk result (λ names. (rows : List Record) → IsLeft R.remaining reader.old rows
+        → (header : Record) × (rest : List Record) × (rows ≡ header ∷ rest)
+        × (names_of header ≡ Ok names.items) × IsLeft R.remaining reader.new rest) }
+    ensures refused { IfErr result (IsHeaderRefused file.now) }
+    ensures lacking { IfErr result (λ e. (rows : List Record) → IsLeft R.remaining reader.old rows
+        → IsLack (shown rows) e) }
 {
-    if !next_record(alloc, file, reader, row)? {
-        return Err(of_path(alloc, file, PathFault::NoHeader));
+    if !next_row(alloc, file, reader, row)? {
+        return Err(of_path(alloc, file.as_str(), PathFault::NoHeader));
     }
-    if row.len() > MAX_COLUMNS {
-        return Err(of_path(alloc, file, PathFault::TooManyColumns));
-    }
-    names_in(alloc, file, row)
+    names_of(alloc, file.as_str(), row)
 }
 
 // A field that a record lacks shows nothing; its load then refuses it.
-fn take_fields(findings: &mut [Findings], row: &ByteRecord) {
-    for (index, found) in findings.iter_mut().enumerate() {
-        if let Some(field) = row.get(index) {
-            *found = found.with(field);
-        }
+fn with_field_at(found: Findings, row: &ByteRecord, index: usize) -> Findings
+    ensures { result ≡ with_field_if found (slice_get (fields_of row.now) index) }
+{
+    match field_at(row, index) {
+        Some(field) => found.with(field),
+        None => found,
+    }
+}
+
+fn take_fields(findings: &mut [Findings], row: &ByteRecord)
+    ensures length { length findings.new ≡ length findings.old }
+    ensures taken { (rows : List Record)
+        → findings.old ≡ found_in (length findings.old) rows
+        → findings.new ≡ found_in (length findings.old) (rows ++ fields_of row.now ∷ []) }
+{
+    for index in 0..findings.len() {
+        findings[index] = with_field_at(findings[index], row, index);
     }
 }
 
 fn take_records<R: Read>(
     alloc: Global,
-    file: &str,
+    file: &Text,
     reader: &mut Reader<R>,
     row: &mut ByteRecord,
     findings: &mut [Findings],
 ) -> Result<(), InitFault>
-    ensures { IfErr result (IsUnread file.now) }
+    ensures length { OnOk result (length findings.new ≡ length findings.old) }
+    ensures taken { OnOk result ((rows : List Record) → IsLeft R.remaining reader.old rows
+        → findings.old ≡ found_in (length findings.old) []
+        → findings.new ≡ found_in (length findings.old) rows) }
+    ensures refused { IfErr result (IsUnread file.now) }
 {
     for _ in 0..u64::MAX {
-        if !next_record(alloc, file, reader, row)? {
-            break;
+        if !next_row(alloc, file, reader, row)? {
+            return Ok(());
         }
         take_fields(findings, row);
     }
-    Ok(())
+    Err(InitFault::Memory)
+}
+
+fn column_of(name: &Text, found: Findings) -> Result<Column, AllocError>
+    ensures { IfOk result (λ column. column ≡ column_of name.now found) }
+{
+    Ok(Column {
+        name: name.clone()?,
+        col_type: found.col_type(),
+        nullable: found.nulls,
+    })
 }
 
 fn columns_of(
     alloc: Global,
     names: &[Text],
     findings: &[Findings],
-) -> Result<Sequence<Column>, AllocError> {
+) -> Result<Sequence<Column>, AllocError>
+    requires { length findings.now ≡ length names.now }
+    ensures { IfOk result (λ columns. columns ≡ columns_of names.now findings.now) }
+{
     let mut columns = Sequence::new(alloc);
-    for (name, found) in names.iter().zip(findings.iter()) {
-        columns.push(Column {
-            name: name.clone()?,
-            col_type: found.col_type(),
-            nullable: found.nulls,
-        })?;
+    for index in 0..names.len() {
+        columns.push(column_of(&names[index], findings[index])?)?;
     }
     Ok(columns)
 }
 
 fn read_columns<R: Read>(
     alloc: Global,
-    file: &str,
+    file: &Text,
     reader: &mut Reader<R>,
     row: &mut ByteRecord,
 ) -> Result<Sequence<Column>, InitFault>
-    ensures { IfErr result (IsHeaderRefused file.now) }
+    ensures shown { IfOk result (λ columns. (rows : List Record) → IsLeft R.remaining reader.old rows
+        → shown rows ≡ Ok columns) }
+    ensures refused { IfErr result (IsHeaderRefused file.now) }
+    ensures lacking { IfErr result (λ e. (rows : List Record) → IsLeft R.remaining reader.old rows
+        → IsLack (shown rows) e) }
 {
     let names = read_names(alloc, file, reader, row)?;
     let mut findings = vec![in alloc; Findings::NONE; names.len()]?;
@@ -141,12 +184,16 @@ fn read_columns<R: Read>(
 /// Out of memory, a file that can't be read, and a header that no catalogue takes.
 pub fn read_table<R: Read + Drop>(
     alloc: Global,
-    file: &str,
+    file: &Text,
     name: Text,
     reader: R,
 ) -> Result<Table, InitFault>
     ensures named { IfOk result (λ table. table.name ≡ name) }
+    ensures shown { IfOk result (λ table. (bytes : List ℕ) → R.remaining reader ≡ Some bytes
+        → shown (csv_records bytes) ≡ Ok table.columns) }
     ensures refused { IfErr result (IsHeaderRefused file.now) }
+    ensures lacking { IfErr result (λ e. (bytes : List ℕ) → R.remaining reader ≡ Some bytes
+        → IsLack (shown (csv_records bytes)) e) }
 {
     let mut reader = csv_reader(alloc, reader);
     let mut row = ByteRecord::new(alloc);

@@ -22,3 +22,4 @@ pub use counting::count_rows;
 pub use dimension::{dimension_named, has_dim, load_dim, load_dimension};
 pub use fact::{FactReader, load_fact, open_fact};
 pub use fault::LoadFault;
+pub use source::{csv_reader, next_record};

@@ -5,6 +5,8 @@ use Rattle.folders.specs.Folder.{AreHeld, Change, Holds, WritesOne, catalog_path
 use Rattle.folders.specs.Refused.{IsAskedFor}
 use Rattle.folders.specs.declared.refusal.Refusal.{Refusal as ARefusal}
 use Rattle.folders.specs.declared.refusal.Refusal.TheVariants as refusal
+use Rattle.init.specs.declared.listing.CsvFile.{CsvFile}
+use Rattle.init.specs.Guessing.{IsGuessable}
 use Rattle.init.specs.Making.{IsAsAsked, IsCatalogFor}
 use Rattle.show.specs.declared.showing.ShowOptions.{ShowOptions}
 use Rattle.show.specs.Shown.{HoldsFile, IsWhole, PrintsPartsOf}
@@ -17,15 +19,17 @@ use Rattle.tools.specs.declared.words.Tool.TheVariants.{Explain, Init, Refusal, 
 abbrev pub IsStatus : ℕ → Type 0
 IsStatus status = (status ≡ 0) ⊎ (status ≡ 1)
 
--- a catalogue was written under which the files that were held load, of the fact that was named, if one was
-abbrev pub WritesCatalog : Holds → List ℕ → Option (List ℕ) → Option (List Change) → Option (List Change) → Type 0
-WritesCatalog holds folder fact before after =
-    (text : List ℕ) × IsCatalogFor holds folder text × IsAsAsked fact text × WritesOne (catalog_path folder) (λ given. given ≡ text) before after
+-- a catalogue was written of the tables that the folder's files show, under which those that were held load, of the fact that was
+-- named, if one was
+abbrev pub WritesCatalog : Holds → (List ℕ → List CsvFile → Type 0) → List ℕ → Option (List ℕ) → Option (List Change) → Option (List Change) → Type 0
+WritesCatalog holds lists folder fact before after =
+    (text : List ℕ) × IsCatalogFor holds folder text × IsAsAsked fact text × IsGuessable holds lists folder fact text
+    × WritesOne (catalog_path folder) (λ given. given ≡ text) before after
 
 -- with the status 0 such a catalogue was written, and with another no file has changed
-abbrev pub MakesCatalog : Holds → List ℕ → Option (List ℕ) → ℕ → Option (List Change) → Option (List Change) → Type 0
-MakesCatalog holds folder fact status before after =
-    ((status ≡ 0) × WritesCatalog holds folder fact before after) ⊎ ((status ≡ 1) × (after ≡ before))
+abbrev pub MakesCatalog : Holds → (List ℕ → List CsvFile → Type 0) → List ℕ → Option (List ℕ) → ℕ → Option (List Change) → Option (List Change) → Type 0
+MakesCatalog holds lists folder fact status before after =
+    ((status ≡ 0) × WritesCatalog holds lists folder fact before after) ⊎ ((status ≡ 1) × (after ≡ before))
 
 -- no file has changed, and with the status 0 the query has a plan over the folder's tables
 abbrev pub ExplainsPlan : Holds → List ℕ → List ℕ → ℕ → Option (List Change) → Option (List Change) → Type 0
@@ -36,11 +40,11 @@ abbrev pub ShowsFile : Holds → List ℕ → ℕ → Option (List Change) → O
 ShowsFile holds path status before after =
     (after ≡ before) × (status ≡ 0 → (bytes : List ℕ) × AreHeld (holds path) bytes × IsWhole bytes)
 
-abbrev pub LeavesFiles : Holds → Tool → ℕ → Option (List Change) → Option (List Change) → Type 0
-LeavesFiles holds (Init words) status before after = MakesCatalog holds words.folder words.fact status before after
-LeavesFiles holds (Refusal words) status before after = after ≡ before
-LeavesFiles holds (Explain words) status before after = ExplainsPlan holds words.folder words.query status before after
-LeavesFiles holds (Show words) status before after = ShowsFile holds words.path status before after
+abbrev pub LeavesFiles : Holds → (List ℕ → List CsvFile → Type 0) → Tool → ℕ → Option (List Change) → Option (List Change) → Type 0
+LeavesFiles holds lists (Init words) status before after = MakesCatalog holds lists words.folder words.fact status before after
+LeavesFiles holds lists (Refusal words) status before after = after ≡ before
+LeavesFiles holds lists (Explain words) status before after = ExplainsPlan holds words.folder words.query status before after
+LeavesFiles holds lists (Show words) status before after = ShowsFile holds words.path status before after
 
 -- a tool that ends with 0 has written nothing to standard error, but what was chosen for a catalogue
 abbrev pub IsSilent : Tool → Option (List ℕ) → Option (List ℕ) → Type 0

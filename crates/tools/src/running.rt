@@ -36,8 +36,8 @@ fn run_init<F: Folder + Listing, E: Write>(
     err: &mut E,
 ) -> u8
     ensures status { IsStatus result }
-    ensures files { MakesCatalog (F.holds folder.old) words.now.folder words.now.fact result
-        (F.wrote folder.old) (F.wrote folder.new) }
+    ensures files { MakesCatalog (F.holds folder.old) (F.lists folder.old) words.now.folder
+        words.now.fact result (F.wrote folder.old) (F.wrote folder.new) }
 {
     match make_catalog(alloc, folder, words.folder.as_str(), fact_in(words), err) {
         Ok(()) => 0,
@@ -126,8 +126,8 @@ pub fn run<F: Folder + Listing, O: Write, E: Write>(
     err: &mut E,
 ) -> u8
     ensures status { IsStatus result }
-    ensures files { LeavesFiles (F.holds folder.old) tool.now result (F.wrote folder.old)
-        (F.wrote folder.new) }
+    ensures files { LeavesFiles (F.holds folder.old) (F.lists folder.old) tool.now result
+        (F.wrote folder.old) (F.wrote folder.new) }
     ensures silent { result ≡ 0
         → IsSilent tool.now (E.contents err.old) (E.contents err.new) }
     ensures output { LeavesOutput (F.holds folder.old) (F.asks folder.old) tool.now result

@@ -16,7 +16,7 @@ not_equal : (m n : ℕ) (b : Bool) → eqb m n ≡ b → m ≢ n → eqb m n ≡
 not_equal m n true is apart = absurd (apart (eqb-true m n is))
 not_equal m n false is apart = is
 
-differs : (m n : ℕ) → m ≢ n → eqb m n ≡ false
+pub differs : (m n : ℕ) → m ≢ n → eqb m n ≡ false
 differs m n apart = not_equal m n (eqb m n) refl apart
 
 module _ (shape : Shape) (bytes : List ℕ) where

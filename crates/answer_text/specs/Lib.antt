@@ -1,4 +1,7 @@
 -- The definitions of this crate.
+pub mod Journals
+pub mod Ranges
 pub mod Reading
+pub mod StateTexts
 pub mod Texts
 pub mod Values

@@ -110,11 +110,6 @@ abbrev pub Shows : {Y : Type 0} → (Y → List ℕ) → Result (Unit {0}) Stop 
 Shows {Y} text (Ok done) before after rest read = (y : Y) × (read ≡ Ok (y, rest)) × (after ≡ before ++ text y)
 Shows text (Err e) before after rest read = e ≢ stop.Memory → read ≡ Err (fault_in e)
 
--- what is read; or what is wrong with it, unless memory was wanting
-abbrev pub Passes : {Y : Type 0} → Result (Unit {0}) Stop → List ℕ → Read DecodeFault Y → Type 0
-Passes {Y} (Ok done) rest read = (y : Y) × (read ≡ Ok (y, rest))
-Passes (Err e) rest read = e ≢ stop.Memory → read ≡ Err (fault_in e)
-
 -- so many bytes, which are a text
 abbrev pub text_of_bytes : ℕ → List ℕ → Read WireFault (List ℕ)
 text_of_bytes n bytes = do

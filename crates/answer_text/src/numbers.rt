@@ -1,4 +1,7 @@
 //! Shares, and numbers in ranges.
+ghost use Rattle.std.specs.Prelude.{◌≡◌, ◌++◌, ◌+◌, ◌∷◌, ◌==◌, [], ℕ, IfOk, List, OnOk, Some, codes, decimal, flat_map, string_bytes};
+ghost use Rattle.answer_text.specs.Ranges.{pending, range_text, ranges, ranges_line};
+
 use std::alloc::AllocError;
 
 /// Writes how many bytes a row takes, with three digits behind the point.
@@ -12,7 +15,11 @@ pub fn put_share(out: &mut String, bytes: u64, rows: u32) -> Result<(), AllocErr
     write!(out, ", {whole}.{part:03} a row")
 }
 
-fn put_range(out: &mut String, first: u32, last: u32) -> Result<(), AllocError> {
+/// Writes a range by its first and its last number.
+fn put_range(out: &mut String, first: u32, last: u32) -> Result<(), AllocError>
+    ensures { OnOk result (string_bytes out.new ≡ string_bytes out.old
+        ++ range_text (first, last)) }
+{
     if first == last {
         write!(out, " {first}")
     } else {
@@ -20,28 +27,74 @@ fn put_range(out: &mut String, first: u32, last: u32) -> Result<(), AllocError> 
     }
 }
 
-/// Writes ascending numbers behind a word and how many they are, neighbours as a range.
-pub fn put_ranges(out: &mut String, word: &str, numbers: &[u32]) -> Result<(), AllocError> {
-    let count = numbers.len();
-    write!(out, "{word} {count}:")?;
-    let mut range: Option<(u32, u32)> = None;
-    for number in numbers {
-        range = match range {
-            None => Some((*number, *number)),
-            Some((first, last)) => Some(go_on(out, first, last, *number)?),
-        };
-    }
-    if let Some((first, last)) = range {
-        put_range(out, first, last)?;
-    }
-    out.push_str("\n")
+fn is_neighbour(last: u32, number: u32) -> bool
+    ensures { result ≡ (last + 1 == number) }
+{
+    u64::from(last) + 1 == u64::from(number)
 }
 
 /// The range that a number is in: the one before it where it is its neighbour, which is written else.
-fn go_on(out: &mut String, first: u32, last: u32, number: u32) -> Result<(u32, u32), AllocError> {
-    if number == last.saturating_add(1) {
+fn go_on(out: &mut String, first: u32, last: u32, number: u32) -> Result<(u32, u32), AllocError>
+    ensures { IfOk result (λ range. (behind : List ℕ)
+        → string_bytes out.new ++ pending (Some range) behind
+        ≡ string_bytes out.old ++ pending (Some (first, last)) (number ∷ behind)) }
+{
+    if is_neighbour(last, number) {
         return Ok((first, number));
     }
     put_range(out, first, last)?;
     Ok((number, number))
+}
+
+/// The range that a number is in, behind this one if there is one.
+fn with_number(
+    out: &mut String,
+    range: Option<(u32, u32)>,
+    number: u32,
+) -> Result<(u32, u32), AllocError>
+    ensures { IfOk result (λ now. (behind : List ℕ)
+        → string_bytes out.new ++ pending (Some now) behind
+        ≡ string_bytes out.old ++ pending range (number ∷ behind)) }
+{
+    match range {
+        None => Ok((number, number)),
+        Some((first, last)) => go_on(out, first, last, number),
+    }
+}
+
+fn put_last(out: &mut String, range: Option<(u32, u32)>) -> Result<(), AllocError>
+    ensures { OnOk result (string_bytes out.new ≡ string_bytes out.old ++ pending range []) }
+{
+    match range {
+        None => Ok(()),
+        Some((first, last)) => put_range(out, first, last),
+    }
+}
+
+fn put_each(out: &mut String, numbers: &[u32]) -> Result<(), AllocError>
+    ensures { OnOk result (string_bytes out.new ≡ string_bytes out.old
+        ++ flat_map range_text (ranges numbers.now)) }
+{
+    let mut range = None;
+    for number in numbers {
+        range = Some(with_number(out, range, *number)?);
+    }
+    put_last(out, range)
+}
+
+fn put_count(out: &mut String, word: &str, count: usize) -> Result<(), AllocError>
+    ensures { OnOk result (string_bytes out.new ≡ string_bytes out.old ++ (word.now
+        ++ codes " " ++ decimal count ++ codes ":")) }
+{
+    write!(out, "{word} {count}:")
+}
+
+/// Writes ascending numbers behind a word and how many they are, neighbours as a range.
+pub fn put_ranges(out: &mut String, word: &str, numbers: &[u32]) -> Result<(), AllocError>
+    ensures { OnOk result (string_bytes out.new ≡ string_bytes out.old
+        ++ ranges_line word.now numbers.now) }
+{
+    put_count(out, word, numbers.len())?;
+    put_each(out, numbers)?;
+    out.push_str("\n")
 }

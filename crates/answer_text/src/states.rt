@@ -1,9 +1,14 @@
 //! States of coordinators.
+ghost use Rattle.std.specs.Prelude.{◌≡◌, ◌++◌, [], List, OnOk, codes, decimal, string_bytes};
 ghost use Rattle.wire.specs.Reading.{repeat_at};
 ghost use Rattle.answer_fields.specs.Fields.{shape_in};
 ghost use Rattle.answer_fields.specs.LayoutReading.{body_at};
 ghost use Rattle.answer_fields.specs.StateSpelling.{cell_at};
-ghost use Rattle.answer_text.specs.Reading.{IsSamePart, Passes, sealed_cells_at, shaped_cells_at, state_at};
+ghost use Rattle.meaning.specs.declared.answer.Cell.TheVariants.{One};
+ghost use Rattle.meaning.specs.Said.{Cell};
+ghost use Rattle.answer_text.specs.Reading.{IsSamePart, Shows, sealed_cells_at, shaped_cells_at, state_at};
+ghost use Rattle.answer_text.specs.StateTexts.{AreListed, ShowsCell, ShowsCells, cells_text, first_state_line, fragments_text, held_state_text, held_text, shaped_cells_text, state_line};
+ghost use Rattle.answer_text.specs.Texts.{where_groups};
 
 use crate::body::show_body;
 use crate::cursor::Cursor;
@@ -24,7 +29,9 @@ struct Fragments {
 }
 
 impl Fragments {
-    fn none(alloc: Global) -> Fragments {
+    fn none(alloc: Global) -> Fragments
+        ensures { AreListed result [] }
+    {
         Fragments {
             held: Vec::new(alloc),
             missing: Vec::new(alloc),
@@ -32,11 +39,21 @@ impl Fragments {
         }
     }
 
-    fn put(&self, out: &mut String) -> Result<(), AllocError> {
+    fn put(&self, out: &mut String) -> Result<(), AllocError>
+        ensures { OnOk result ((cells : List Cell) → AreListed self.now cells
+            → string_bytes out.new ≡ string_bytes out.old ++ fragments_text cells) }
+    {
         put_ranges(out, "in", self.held.as_slice())?;
         put_ranges(out, "missing", self.missing.as_slice())?;
         put_ranges(out, "in conflict", self.in_conflict.as_slice())
     }
+}
+
+fn put_fragment(out: &mut String, fragment: u32) -> Result<(), AllocError>
+    ensures { OnOk result (string_bytes out.new ≡ string_bytes out.old ++ (codes "fragment "
+        ++ decimal fragment ++ codes ": ")) }
+{
+    write!(out, "fragment {fragment}: ")
 }
 
 /// Shows the answer that is held for a fragment, where its groups are asked for.
@@ -48,15 +65,17 @@ fn show_held(
     detail: Detail,
     out: &mut String,
 ) -> Result<(), Stop>
-    ensures read { Passes result cursor.new.rest.now
+    ensures shown { Shows
+        (λ body. where_groups detail (held_text (shape_in shape.now) fragment (One body))) result
+        (string_bytes out.old) (string_bytes out.new) cursor.new.rest.now
         (body_at (shape_in shape.now) cursor.old.rest.now) }
     ensures part { IsSamePart cursor.old cursor.new }
 {
     if detail != Detail::Groups {
         return show_body(alloc, cursor, shape, Detail::Nothing, out);
     }
-    write!(out, "fragment {fragment}: ")?;
-    show_body(alloc, cursor, shape, detail, out)
+    put_fragment(out, fragment)?;
+    show_body(alloc, cursor, shape, Detail::Groups, out)
 }
 
 /// Reads what is held for a fragment.
@@ -70,7 +89,8 @@ fn show_cell(
     fragments: &mut Fragments,
     out: &mut String,
 ) -> Result<(), Stop>
-    ensures read { Passes result cursor.new.rest.now
+    ensures shown { ShowsCell detail (shape_in shape.now) fragment result fragments.old
+        fragments.new (string_bytes out.old) (string_bytes out.new) cursor.new.rest.now
         (cell_at (shape_in shape.now) cursor.old.rest.now) }
     ensures part { IsSamePart cursor.old cursor.new }
 {
@@ -95,7 +115,8 @@ fn show_cells(
     fragments: &mut Fragments,
     out: &mut String,
 ) -> Result<(), Stop>
-    ensures read { Passes result cursor.new.rest.now
+    ensures shown { AreListed fragments.old [] → ShowsCells detail (shape_in shape.now) result
+        fragments.new (string_bytes out.old) (string_bytes out.new) cursor.new.rest.now
         (repeat_at (cell_at (shape_in shape.now)) count cursor.old.rest.now) }
     ensures part { IsSamePart cursor.old cursor.new }
 {
@@ -114,7 +135,8 @@ fn show_fragments(
     detail: Detail,
     out: &mut String,
 ) -> Result<(), Stop>
-    ensures read { Passes result cursor.new.rest.now
+    ensures shown { Shows (cells_text detail (shape_in shape.now)) result (string_bytes out.old)
+        (string_bytes out.new) cursor.new.rest.now
         (repeat_at (cell_at (shape_in shape.now)) count cursor.old.rest.now) }
     ensures part { IsSamePart cursor.old cursor.new }
 {
@@ -133,7 +155,8 @@ fn show_sealed(
     detail: Detail,
     out: &mut String,
 ) -> Result<(), Stop>
-    ensures read { Passes result cursor.new.rest.now
+    ensures shown { Shows (λ cells. shaped_cells_text detail (shape_in shape.now, cells)) result
+        (string_bytes out.old) (string_bytes out.new) cursor.new.rest.now
         (sealed_cells_at (shape_in shape.now) count cursor.old.bytes.now cursor.old.rest.now) }
     ensures part { IsSamePart cursor.old cursor.new }
 {
@@ -151,7 +174,8 @@ fn show_shaped(
     detail: Detail,
     out: &mut String,
 ) -> Result<(), Stop>
-    ensures read { Passes result cursor.new.rest.now
+    ensures shown { Shows (shaped_cells_text detail) result (string_bytes out.old)
+        (string_bytes out.new) cursor.new.rest.now
         (shaped_cells_at format count cursor.old.bytes.now cursor.old.rest.now) }
     ensures part { IsSamePart cursor.old cursor.new }
 {
@@ -159,6 +183,20 @@ fn show_shaped(
     let shown = show_sealed(alloc, cursor, &shape, count, detail, out);
     drop(shape);
     shown
+}
+
+fn put_numbered(out: &mut String, number: u8, size: usize) -> Result<(), AllocError>
+    ensures { OnOk result (string_bytes out.new ≡ string_bytes out.old ++ state_line number size) }
+{
+    writeln!(out, "state in format {number}, {size} bytes")
+}
+
+/// Writes what a file is, in which format, and how many bytes it has.
+fn put_first_line(out: &mut String, format: Format, size: usize) -> Result<(), AllocError>
+    ensures { OnOk result (string_bytes out.new ≡ string_bytes out.old
+        ++ first_state_line format size) }
+{
+    put_numbered(out, format.number(), size)
 }
 
 /// Shows a state in this format, behind its magic.
@@ -170,12 +208,12 @@ pub fn show_state(
     detail: Detail,
     out: &mut String,
 ) -> Result<(), Stop>
-    ensures read { Passes result cursor.new.rest.now
+    ensures shown { Shows (held_state_text detail size) result (string_bytes out.old)
+        (string_bytes out.new) cursor.new.rest.now
         (state_at format cursor.old.bytes.now cursor.old.rest.now) }
     ensures part { IsSamePart cursor.old cursor.new }
 {
-    let number = format.number();
-    writeln!(out, "state in format {number}, {size} bytes")?;
+    put_first_line(out, format, size)?;
     let head = take_head(cursor)?;
     put_head(out, &head)?;
     show_shaped(alloc, cursor, format, head.fragments, detail, out)

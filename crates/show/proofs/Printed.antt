@@ -5,10 +5,16 @@ use Rattle.std.specs.Io.KnownBytes.{Appends}
 use Rattle.show.specs.declared.file_kind.FileKind.{FileKind}
 use Rattle.show.specs.declared.file_kind.FileKind.TheVariants as kind
 use Rattle.show.specs.Rows.{AreRecords}
-use Rattle.show.specs.Shown.{IsKnownOf, IsPrinted, IsReadAnswer, IsText, detail_of, front_of, kind_of}
+use Rattle.show.specs.Shown.{IsKnownOf, IsPrinted, IsRead, IsText, PrintsRead, detail_of, front_of, kind_of}
 use Rattle.show.specs.declared.showing.ShowOptions.{ShowOptions}
 use Rattle.answer_fields.specs.declared.format.Format.{Format}
+use Rattle.answer_fields.specs.declared.fault.DecodeFault.{DecodeFault}
+use Rattle.answer_text.specs.Journals.{journal_at, journal_text}
+use Rattle.answer_text.specs.Reading.{answer_at, state_at}
+use Rattle.answer_text.specs.StateTexts.{held_state_text}
+use Rattle.answer_text.specs.Texts.{answer_text}
 use Rattle.wire.proofs.Numbers.{IsBytes}
+use Rattle.wire.specs.Reading.{Read}
 use Rattle.answer_text.proofs.Spelled.{answer_spelled}
 use Rattle.show.proofs.Begins.{begins_as_answer}
 
@@ -27,12 +33,15 @@ module _ (bytes : List ℕ) (known : Option ℕ) (front text : List ℕ) (before
   rows_known : (rows n : ℕ) → known ≡ Some n → IfSome known (λ m. rows ≡ m) → rows ≡ n
   rows_known rows n is said = let here : IfSome (Some n) (λ m. rows ≡ m) = subst (λ k. IfSome k (λ m. rows ≡ m)) is said in here
 
-  spelled_so : (format : Format) (options : ShowOptions) → IsBytes bytes → front ≡ [] → kind_of bytes ≡ Some (kind.Answer format) → IsReadAnswer format bytes (detail_of options) text
+  spelled_so : (format : Format) (options : ShowOptions) → IsBytes bytes → front ≡ [] → kind_of bytes ≡ Some (kind.Answer format) → IsRead (answer_at format) (answer_text (detail_of options) (length bytes)) bytes text
       → IsPrinted (kind.Answer format) bytes options options.rows before after
   spelled_so format options ok none begins (l, rest, read, is) =
       let begun = begins_as_answer bytes format begins in
       let spelled = answer_spelled bytes format (drop 4 bytes) l rest ok begun read in
       (l, spelled.0, spelled.1, subst (λ t. Appends before after t) (ap (λ f. f ++ text) none ∙ is) appends)
+
+  read_so : {Y : Type 0} (read : List ℕ → List ℕ → Read DecodeFault Y) (text_of : Y → List ℕ) → front ≡ [] → IsRead read text_of bytes text → PrintsRead read text_of bytes before after
+  read_so read text_of none (y, rest, there, is) = (y, rest, there, subst (λ t. Appends before after t) (ap (λ f. f ++ text) none ∙ is) appends)
 
   pub printed : (kind : FileKind) (options : ShowOptions) (most : Option ℕ) → IsBytes bytes → kind_of bytes ≡ Some kind → IsText kind bytes options most known front text → IsKnownOf kind bytes known
       → IsPrinted kind bytes options most before after
@@ -44,5 +53,5 @@ module _ (bytes : List ℕ) (known : Option ℕ) (front text : List ℕ) (before
   )
   printed kind.Cut options most ok begins (is, parts) known_so = behind kind.Cut is
   printed (kind.Answer format) options most ok begins (is, parts) known_so = spelled_so format options ok is begins parts
-  printed (kind.State format) options most ok begins (is, parts) known_so = (parts, behind (kind.State format) is)
-  printed kind.Journal options most ok begins (is, parts) known_so = behind kind.Journal is
+  printed (kind.State format) options most ok begins (is, parts) known_so = read_so (state_at format) (held_state_text (detail_of options) (length bytes)) is parts
+  printed kind.Journal options most ok begins (is, parts) known_so = read_so journal_at (journal_text (detail_of options) 0 (length bytes)) is parts

@@ -14,8 +14,11 @@ use Rattle.show.specs.declared.file_kind.FileKind.TheVariants as kind
 use Rattle.show.specs.declared.showing.ShowOptions.{ShowOptions}
 use Rattle.answer_fields.specs.Spelling.{Layout, layout_bytes}
 use Rattle.wire.specs.Bytes.{sealed}
-use Rattle.answer_fields.specs.StateSpelling.{StateLayout}
+use Rattle.wire.specs.Reading.{Read}
+use Rattle.answer_fields.specs.declared.fault.DecodeFault.{DecodeFault}
+use Rattle.answer_text.specs.Journals.{journal_at, journal_text}
 use Rattle.answer_text.specs.Reading.{answer_at, state_at}
+use Rattle.answer_text.specs.StateTexts.{held_state_text}
 use Rattle.answer_text.specs.Texts.{answer_text}
 use Rattle.answer_text.specs.declared.detail.Detail.{Detail}
 use Rattle.answer_text.specs.declared.detail.Detail.TheVariants as of_detail
@@ -67,18 +70,15 @@ IsKnownOf _ bytes known = ⊤
 abbrev pub detail_of : ShowOptions → Detail
 detail_of options = if options.groups then of_detail.Groups else of_detail.Count
 
--- the text of an answer that is read behind its magic
-abbrev pub IsReadAnswer : Format → List ℕ → Detail → List ℕ → Type 0
-IsReadAnswer format bytes detail text = (l : Layout) × (rest : List ℕ) × (answer_at format bytes (drop 4 bytes) ≡ Ok (l, rest)) × (text ≡ answer_text detail (length bytes) l)
+-- the fields that are read behind the magic are these, and the text is theirs
+abbrev pub IsRead : {Y : Type 0} → (List ℕ → List ℕ → Read DecodeFault Y) → (Y → List ℕ) → List ℕ → List ℕ → Type 0
+IsRead {Y} read text_of bytes text = (y : Y) × (rest : List ℕ) × (read bytes (drop 4 bytes) ≡ Ok (y, rest)) × (text ≡ text_of y)
 
--- a state is read behind its magic
-abbrev pub IsReadState : Format → List ℕ → Type 0
-IsReadState format bytes = (l : StateLayout) × (rest : List ℕ) × (state_at format bytes (drop 4 bytes) ≡ Ok (l, rest))
-
--- the text of the parts of a file; of a state only that it is read
+-- the text of the parts of a file that is no table and no cut
 abbrev pub ArePartsOf : FileKind → List ℕ → Detail → List ℕ → Type 0
-ArePartsOf (kind.Answer f) bytes detail text = IsReadAnswer f bytes detail text
-ArePartsOf (kind.State f) bytes detail text = IsReadState f bytes
+ArePartsOf (kind.Answer f) bytes detail text = IsRead (answer_at f) (answer_text detail (length bytes)) bytes text
+ArePartsOf (kind.State f) bytes detail text = IsRead (state_at f) (held_state_text detail (length bytes)) bytes text
+ArePartsOf kind.Journal bytes detail text = IsRead journal_at (journal_text detail 0 (length bytes)) bytes text
 ArePartsOf _ bytes detail text = ⊤
 
 -- where rows of a table's file are asked for, a header and the first rows are printed, as many as are asked for or all that
@@ -87,12 +87,17 @@ abbrev pub IsText : FileKind → List ℕ → ShowOptions → Option ℕ → Opt
 IsText kind.Table bytes options (Some most) known front text = (front ≡ []) × ((rows : ℕ) × IfSome known (λ n. rows ≡ n) × AreRecords (1 + min most rows) text)
 IsText kind bytes options most known front text = (front ≡ front_of kind (length bytes)) × ArePartsOf kind bytes (detail_of options) text
 
--- the same of what is printed of a file that has no fault. An answer's bytes are spelled by the fields that are printed, and a
--- state's are those of a state.
+-- the text of the fields that are read behind the magic is printed
+abbrev pub PrintsRead : {Y : Type 0} → (List ℕ → List ℕ → Read DecodeFault Y) → (Y → List ℕ) → List ℕ → Option (List ℕ) → Option (List ℕ) → Type 0
+PrintsRead {Y} read text_of bytes before after = (y : Y) × (rest : List ℕ) × (read bytes (drop 4 bytes) ≡ Ok (y, rest)) × Appends before after (text_of y)
+
+-- The same of what is printed of a file that has no fault. An answer's bytes are spelled by the fields that are printed; those of a
+-- state or a journal are read as the fields that are printed.
 abbrev pub IsPrinted : FileKind → List ℕ → ShowOptions → Option ℕ → Option (List ℕ) → Option (List ℕ) → Type 0
 IsPrinted kind.Table bytes options (Some most) before after = (rows : ℕ) × HasRows bytes rows × AppendsRecords (1 + min most rows) before after
 IsPrinted (kind.Answer f) bytes options most before after = (l : Layout) × (l.format ≡ f) × (bytes ≡ sealed (layout_bytes l)) × Appends before after (answer_text (detail_of options) (length bytes) l)
-IsPrinted (kind.State f) bytes options most before after = IsReadState f bytes × ((rest : List ℕ) × Appends before after rest)
+IsPrinted (kind.State f) bytes options most before after = PrintsRead (state_at f) (held_state_text (detail_of options) (length bytes)) bytes before after
+IsPrinted kind.Journal bytes options most before after = PrintsRead journal_at (journal_text (detail_of options) 0 (length bytes)) bytes before after
 IsPrinted kind bytes options most before after = (rest : List ℕ) × Appends before after (front_of kind (length bytes) ++ rest)
 
 -- so it is of bytes that begin as one of the files

@@ -1,38 +1,35 @@
 -- Proofs of the goals of `show_cell` (`states`).
-use Rattle.std.proofs.Common.{◌≡◌, List, ℕ, Ok, Err, ap, refl, ◌∙◌}
-use Rattle.std.specs.Prelude.{Result}
-use Rattle.std.proofs.lemmas.Result.{err_from_is_err_and}
-use Rattle.meaning.specs.declared.answer.Cell.TheVariants.{Nothing, Conflict}
-use Rattle.wire.specs.Reading.{number_at}
-use Rattle.answer_fields.specs.Fault.{from_wire}
+use Rattle.std.proofs.Common.{ℕ, Ok, ap, refl, string_bytes, ◌∙◌}
 use Rattle.answer_fields.specs.Fields.{shape_in}
-use Rattle.answer_fields.specs.declared.fault.DecodeFault.{DecodeFault}
-use Rattle.answer_text.specs.Reading.{fault_in}
-use Rattle.answer_text.proofs.Passing.{answer_held, conflict_held, no_tag, nothing_held}
+use Rattle.meaning.specs.declared.answer.Cell.TheVariants.{Nothing, One, Conflict}
+use Rattle.answer_text.proofs.Cells.{answer_shown, conflict_shown, missing_shown}
+use Rattle.answer_text.proofs.CellRead.{answer_held, conflict_held, nothing_held}
 use Rattle.answer_text.proofs.states.show_cell.Goals as goal
 
-pub returns-in_err-take_u8-clause-read : goal.returns-in_err-take_u8-clause-read
-returns-in_err-take_u8-clause-read c =
-    let p = err_from_is_err_and c.from_residual.result c.from_residual.ensures.1 in
-    rw (p.1, p.2) (λ other. no_tag (shape_in c.args.shape.now) c.args.cursor.now.rest.now c.take_u8.new.self.rest.now (fault_in c.in_err-take_u8.field-0.0) c.in_err-take_u8.ensures.read)
-
-pub returns-in_err-show_held-in-1-clause-read : goal.returns-in_err-show_held-in-1-clause-read
-returns-in_err-show_held-in-1-clause-read c =
+pub returns-in_ok-push-in-0-clause-shown : goal.returns-in_ok-push-in-0-clause-shown
+returns-in_ok-push-in-0-clause-shown c =
     let between = c.take_u8.new.self.rest.now in
-    let p = err_from_is_err_and c.from_residual-in_err-show_held-in-1.result c.from_residual-in_err-show_held-in-1.ensures.1 in
-    rw (p.1, p.2) (answer_held (shape_in c.args.shape.now) c.args.cursor.now.rest.now between (c.in_ok-take_u8.ensures.read ∙ ap (λ (n : ℕ). Ok (n, between)) c.in-1.is) (Err c.in_err-show_held-in-1.field-0.0) c.show_held.new.cursor.rest.now c.in_err-show_held-in-1.ensures.read)
+    let shape = shape_in c.args.shape.now in (
+      Nothing,
+      nothing_held shape c.args.cursor.now.rest.now between (c.in_ok-take_u8.ensures.read ∙ ap (λ (n : ℕ). Ok (n, between)) c.in-0.is),
+      missing_shown c.args.detail shape c.args.fragment c.args.fragments.now _ (string_bytes c.args.out.now) refl c.in_ok-push-in-0.ensures.items refl,
+    )
 
-pub returns-in_ok-push-in-0-clause-read : goal.returns-in_ok-push-in-0-clause-read
-returns-in_ok-push-in-0-clause-read c =
+pub returns-in_ok-push-in-1-clause-shown : goal.returns-in_ok-push-in-1-clause-shown
+returns-in_ok-push-in-1-clause-shown c =
     let between = c.take_u8.new.self.rest.now in
-    (Nothing, nothing_held (shape_in c.args.shape.now) c.args.cursor.now.rest.now between (c.in_ok-take_u8.ensures.read ∙ ap (λ (n : ℕ). Ok (n, between)) c.in-0.is))
+    let shape = shape_in c.args.shape.now in
+    let (body, read, more) = c.in_ok-show_held-in-1.ensures.shown in (
+      One body,
+      answer_held shape c.args.cursor.now.rest.now between (c.in_ok-take_u8.ensures.read ∙ ap (λ (n : ℕ). Ok (n, between)) c.in-1.is) body c.show_held.new.cursor.rest.now read,
+      answer_shown c.args.detail shape c.args.fragment c.args.fragments.now _ body (string_bytes c.args.out.now) (string_bytes c.show_held.new.out) more c.in_ok-push-in-1.ensures.items refl refl,
+    )
 
-pub returns-in_ok-push-in-1-clause-read : goal.returns-in_ok-push-in-1-clause-read
-returns-in_ok-push-in-1-clause-read c =
+pub returns-in_ok-push-in-2-clause-shown : goal.returns-in_ok-push-in-2-clause-shown
+returns-in_ok-push-in-2-clause-shown c =
     let between = c.take_u8.new.self.rest.now in
-    answer_held (shape_in c.args.shape.now) c.args.cursor.now.rest.now between (c.in_ok-take_u8.ensures.read ∙ ap (λ (n : ℕ). Ok (n, between)) c.in-1.is) (Ok tt) c.show_held.new.cursor.rest.now c.in_ok-show_held-in-1.ensures.read
-
-pub returns-in_ok-push-in-2-clause-read : goal.returns-in_ok-push-in-2-clause-read
-returns-in_ok-push-in-2-clause-read c =
-    let between = c.take_u8.new.self.rest.now in
-    (Conflict, conflict_held (shape_in c.args.shape.now) c.args.cursor.now.rest.now between (c.in_ok-take_u8.ensures.read ∙ ap (λ (n : ℕ). Ok (n, between)) c.in-2.is))
+    let shape = shape_in c.args.shape.now in (
+      Conflict,
+      conflict_held shape c.args.cursor.now.rest.now between (c.in_ok-take_u8.ensures.read ∙ ap (λ (n : ℕ). Ok (n, between)) c.in-2.is),
+      conflict_shown c.args.detail shape c.args.fragment c.args.fragments.now _ (string_bytes c.args.out.now) refl refl c.in_ok-push-in-2.ensures.items,
+    )

@@ -34,8 +34,8 @@ module _ (tries : List ℕ → Type 0) (holds : Holds) where
 
   untried_dimensions : (folder : List ℕ) (files : List CsvFile) (fact : List ℕ) (e : InitFault) → AreDimensionsUnmade holds folder files fact e → IsTriedFor tries e
   untried_dimensions folder files fact e (inl is) = subst (IsTriedFor tries) (sym is) tt
-  untried_dimensions folder files fact e (inr (file, there, apart, of)) =
-      untried_dimension (csv_path folder (string_bytes file.table)) (string_bytes file.table) e of
+  untried_dimensions folder files fact e (inr first) =
+      untried_dimension (csv_path folder (string_bytes first.file.table)) (string_bytes first.file.table) e first.unmade
 
   untried_no_catalog : (text : List ℕ) (e : InitFault) → IsNoCatalog text e → IsTriedFor tries e
   untried_no_catalog text e (inl is) = subst (IsTriedFor tries) (sym is) tt
@@ -68,7 +68,7 @@ module _ (tries : List ℕ → Type 0) (holds : Holds) where
 
   untried_text : (folder : List ℕ) (files : List CsvFile) (fact : List ℕ) (e : InitFault) → IsTextRefused holds folder files fact e → IsTriedFor tries e
   untried_text folder files fact e (inl (inl (inl of))) = untried_table (csv_path folder fact) fact e of
-  untried_text folder files fact e (inl (inl (inr of))) = untried_dimensions folder files fact e of
+  untried_text folder files fact e (inl (inl (inr (made, of)))) = untried_dimensions folder files fact e of
   untried_text folder files fact e (inl (inr (text, of))) = untried_no_catalog text e of
   untried_text folder files fact e (inr (text, guess, of)) = untried_catalog folder text e of
 

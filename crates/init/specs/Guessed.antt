@@ -1,5 +1,5 @@
 -- What a guessed catalogue declares: the tables of a folder's files, as these show them.
-use Rattle.std.specs.Prelude.{◌≡◌, ℕ, List, [], ◌∷◌, filter, not, Some, Ok, ⊤, string_bytes}
+use Rattle.std.specs.Prelude.{◌≡◌, ℕ, true, List, [], ◌∷◌, filter, not, Some, Ok, ⊤, string_bytes}
 use Rattle.std.specs.Str.{bytes_eq}
 use Rattle.meaning.specs.declared.catalog.Catalog.{Catalog}
 use Rattle.meaning.specs.declared.catalog.Column.{Column}
@@ -10,7 +10,7 @@ use Rattle.loader.specs.Source.{csv_records}
 use Rattle.folders.specs.Folder.{Holds, csv_path}
 use Rattle.init.specs.declared.listing.CsvFile.{CsvFile}
 use Rattle.init.specs.Keys.{keys_of}
-use Rattle.init.specs.Shown.{shown}
+use Rattle.init.specs.Shown.{is_short_name, shown}
 
 -- the columns are those that the file of this path shows, where its bytes are known
 abbrev pub AreShown : Holds → List ℕ → List Column → Type 0
@@ -20,10 +20,10 @@ AreShown holds path columns = (csv : List ℕ) → holds path ≡ Some csv → s
 abbrev pub IsFirstKey : Holds → List ℕ → Dimension → Type 0
 IsFirstKey holds path dimension = (csv : List ℕ) → holds path ≡ Some csv → (behind : List ℕ) × (keys_of dimension.table (csv_records csv) ≡ dimension.key ∷ behind)
 
--- the dimension has the name of the file, and the columns and the key that it shows
+-- the dimension has the name of the file, which is one of a table, and the columns and the key that it shows
 abbrev pub IsDimensionOf : Holds → List ℕ → CsvFile → Dimension → Type 0
 IsDimensionOf holds folder file dimension =
-    (dimension.table.name ≡ string_bytes file.table) × AreShown holds (csv_path folder (string_bytes file.table)) dimension.table.columns × IsFirstKey holds (csv_path folder (string_bytes file.table)) dimension
+    (dimension.table.name ≡ string_bytes file.table) × (is_short_name (string_bytes file.table) ≡ true) × AreShown holds (csv_path folder (string_bytes file.table)) dimension.table.columns × IsFirstKey holds (csv_path folder (string_bytes file.table)) dimension
 
 -- there is one dimension for each file, in their order
 abbrev pub AreDimensionsOf : Holds → List ℕ → List CsvFile → List Dimension → Type 0

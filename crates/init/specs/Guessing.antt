@@ -1,10 +1,13 @@
 -- Why no catalogue is made for a folder: the first thing that is wrong, in the order in which one is guessed.
-use Rattle.std.specs.Prelude.{◌≡◌, ◌≢◌, ◌⊎◌, ℕ, ◌+◌, ◌<◌, ◌≤◌, Bool, true, false, List, [], length, take, get_or, All, Contains, Option, None, Some, Result, Err, ⊤, string_bytes}
+use Rattle.std.specs.Prelude.{◌≡◌, ◌⊎◌, ℕ, ◌+◌, ◌<◌, ◌≤◌, Bool, true, false, List, [], ◌∷◌, ◌++◌, length, take, get_or, All, Option, None, Some, Result, Err, ⊤, string_bytes}
 use Rattle.std.specs.List.{list_any}
-use Rattle.std.specs.List.Sorted.{IsPermutation}
+use Rattle.std.specs.Cmp.Lexicographic.{slice_cmp}
+use Rattle.std.specs.List.Sorted.{IsPermutation, IsSortedByKey}
+use Rattle.std.specs.Ordering.{nat_cmp}
 use Rattle.std.specs.Str.{bytes_eq}
 use Rattle.meaning.specs.declared.catalog.CatalogFault.{CatalogFault}
 use Rattle.meaning.specs.declared.catalog.Column.{Column}
+use Rattle.meaning.specs.declared.catalog.Dimension.{Dimension}
 use Rattle.meaning.specs.declared.catalog.Table.{Table}
 use Rattle.meaning.specs.Limits.{max_dimensions}
 use Rattle.catalog_reader.specs.CatalogText.{catalog_of}
@@ -15,7 +18,7 @@ use Rattle.init.specs.declared.fault.InitFault.{InitFault}
 use Rattle.init.specs.declared.fault.InitFault.TheVariants as fault
 use Rattle.init.specs.declared.fault.PathFault.TheVariants as path_fault
 use Rattle.init.specs.declared.listing.CsvFile.{CsvFile}
-use Rattle.init.specs.Guessed.{AreShown, IsGuess}
+use Rattle.init.specs.Guessed.{AreDimensionsOf, AreShown, IsGuess, others}
 use Rattle.init.specs.Keys.{keys_of}
 use Rattle.init.specs.Refusing.{IsCatalogRefused, IsDimensionRefused, IsNotAbsent, IsUnwritten}
 use Rattle.init.specs.Shown.{IsLack, is_short_name, shown}
@@ -88,9 +91,13 @@ IsUnlisted hides folder _ = ⊥
 abbrev pub IsAskedOrHidden : (List ℕ → Type 0) → (List ℕ → Type 0) → List ℕ → List ℕ → Type 0
 IsAskedOrHidden asks hides folder path = asks path ⊎ ((path ≡ folder) × hides folder)
 
--- the folder's files, in some order
+-- no file's name is less than that of the file before it
+abbrev pub AreByName : List CsvFile → Type 0
+AreByName files = IsSortedByKey (λ file. string_bytes file.table) (slice_cmp nat_cmp) files
+
+-- the folder's files, by their names
 abbrev pub IsListed : (List ℕ → List CsvFile → Type 0) → List ℕ → List CsvFile → Type 0
-IsListed lists folder files = (found : List CsvFile) × lists folder found × IsPermutation found files
+IsListed lists folder files = (found : List CsvFile) × lists folder found × IsPermutation found files × AreByName files
 
 abbrev pub has_file : List CsvFile → List ℕ → Bool
 has_file files table = list_any (λ file. bytes_eq (string_bytes file.table) table) files
@@ -118,14 +125,27 @@ IsFactUnfound asked files folder (fault.Path file path_fault.NoFact) = (name : L
 IsFactUnfound asked files folder (fault.Path file path_fault.NoFile) = (asked ≡ None) × (files ≡ []) × (string_bytes file ≡ folder)
 IsFactUnfound asked files folder _ = ⊥
 
--- memory ran out, or one of the files but the fact's makes no dimension
-abbrev pub AreDimensionsUnmade : Holds → List ℕ → List CsvFile → List ℕ → InitFault → Type 0
-AreDimensionsUnmade holds folder files fact e = (e ≡ fault.Memory)
-    ⊎ ((file : CsvFile) × Contains files file × (string_bytes file.table ≢ fact) × IsDimensionUnmade holds (csv_path folder (string_bytes file.table)) (string_bytes file.table) e)
+-- a file makes no dimension, and those before it make one each
+pub record IsFirstUnmade (holds : Holds) (folder : List ℕ) (files : List CsvFile) (e : InitFault) : Type 0 where
+  pub front : List CsvFile
+  pub file : CsvFile
+  pub behind : List CsvFile
+  pub files_are : files ≡ front ++ file ∷ behind
+  pub dims : List Dimension
+  pub made : AreDimensionsOf holds folder front dims
+  pub unmade : IsDimensionUnmade holds (csv_path folder (string_bytes file.table)) (string_bytes file.table) e
 
--- the fact's file makes no table, or a file makes no dimension
+-- memory ran out, or one of the files but the fact's makes no dimension, and is the first that makes none
+abbrev pub AreDimensionsUnmade : Holds → List ℕ → List CsvFile → List ℕ → InitFault → Type 0
+AreDimensionsUnmade holds folder files fact e = (e ≡ fault.Memory) ⊎ IsFirstUnmade holds folder (others fact files) e
+
+-- the file of the fact of this name makes a table
+abbrev pub IsFactMade : Holds → List ℕ → List ℕ → Type 0
+IsFactMade holds folder fact = (is_short_name fact ≡ true) × (columns : List Column) × AreShown holds (csv_path folder fact) columns
+
+-- the fact's file makes no table; or it makes one, and another file makes no dimension
 abbrev pub IsTextUnmade : Holds → List ℕ → List CsvFile → List ℕ → InitFault → Type 0
-IsTextUnmade holds folder files fact e = IsTableRefused holds (csv_path folder fact) fact e ⊎ AreDimensionsUnmade holds folder files fact e
+IsTextUnmade holds folder files fact e = IsTableRefused holds (csv_path folder fact) fact e ⊎ (IsFactMade holds folder fact × AreDimensionsUnmade holds folder files fact e)
 
 -- memory ran out, or the text is no catalogue
 abbrev pub IsNoCatalog : List ℕ → InitFault → Type 0

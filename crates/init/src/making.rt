@@ -85,6 +85,7 @@ fn dimension_of<F: Folder, E: Write>(
     err: &mut E,
 ) -> Result<Keyed, InitFault>
     ensures made { IfOk result (λ keyed. (keyed.dimension.table.name ≡ table.now)
+        × (is_short_name table.now ≡ true)
         × AreShown (F.holds folder.now) (csv_path directory.now table.now)
         keyed.dimension.table.columns
         × IsFirstKey (F.holds folder.now) (csv_path directory.now table.now) keyed.dimension) }
@@ -115,8 +116,8 @@ fn add_dimensions<F: Folder, E: Write>(
     ensures made { OnOk result ((dims.old.items ≡ [])
         → AreDimensionsOf (F.holds folder.now) directory.now (others fact.now files.now)
         (map (λ keyed. keyed.dimension) dims.new.items)) }
-    ensures refused { IfErr result
-        (AreDimensionsUnmade (F.holds folder.now) directory.now files.now fact.now) }
+    ensures refused { IfErr result (λ e. (dims.old.items ≡ [])
+        → AreDimensionsUnmade (F.holds folder.now) directory.now files.now fact.now e) }
     ensures unread { IfErr result (IsAskedFor (F.asks folder.now)) }
 {
     for file in files {

@@ -1,29 +1,25 @@
 -- Proofs of the goals of `add_dimensions` (`making`).
-use Rattle.std.proofs.Common.{◌≡◌, ◌≢◌, [], ◌∷◌, ◌++◌, ◌+◌, Bool, false, true, ap, inr, map, subst, sym, take, ◌∙◌}
-use Rattle.std.specs.Prelude.{string_bytes}
+use Rattle.std.proofs.Common.{◌≡◌, [], ◌∷◌, ◌++◌, ◌+◌, false, true, ap, inr, map, subst, sym, take, ◌∙◌}
 use Rattle.std.specs.Str.{bytes_eq}
 use Rattle.std.proofs.lemmas.List.{map-append}
 use Rattle.std.proofs.lemmas.Result.{err_from_is_err_and}
-use Rattle.std.proofs.lemmas.Slice.Eq.{bytes_eq-Decides}
 use Rattle.folders.specs.Folder.{csv_path}
 use Rattle.init.specs.declared.keys.Keyed.{Keyed}
 use Rattle.init.specs.Guessed.{AreDimensionsOf, AreShown, IsFirstKey, others}
 use Rattle.init.specs.Guessing.{IsDimensionUnmade}
-use Rattle.init.proofs.Guessing.{one_dimension_more, one_other_more}
+use Rattle.init.specs.Shown.{is_short_name}
+use Rattle.init.proofs.Guessing.{first_unmade, one_dimension_more, one_other_more}
 use Rattle.init.proofs.making.add_dimensions.Goals as goal
-
-never : (b : Bool) → b ≡ false → b ≡ true → ⊥
-never b is_false is_true = let bad : false ≡ true = sym is_false ∙ is_true in cc bad
 
 pub returns-in_err-dimension-clause-refused : goal.returns-in_err-dimension-clause-refused
 returns-in_err-dimension-clause-refused g c =
     let file = c.file-item.result in
     let e = c.in_err-dimension.field-0.0 in
-    let apart : string_bytes file.table ≢ c.args.fact.now = λ same.
-    never c.eq.result c.if-eq.false (c.eq.ensures ∙ (bytes_eq-Decides c.as_str.result.now c.args.fact.now).1 (c.as_str.ensures.value ∙ same)) in
+    let apart = subst (λ table. bytes_eq table c.args.fact.now ≡ false) c.as_str.ensures.value (sym c.eq.ensures ∙ c.if-eq.false) in
     let unmade = subst (λ table. IsDimensionUnmade (g.F.Folder.holds c.args.folder.now) (csv_path c.args.directory.now table) table e) c.as_str-in-loop-file.ensures.value c.in_err-dimension.ensures.refused in
     let p = err_from_is_err_and c.from_residual.result c.from_residual.ensures.1 in
-    rw (p.1, p.2) (inr (file, (c.loop-file.file-index, c.loop-file-test.true, sym c.file-item.is), apart, unmade))
+    rw (p.1, p.2) (λ empty.
+    inr (first_unmade (g.F.Folder.holds c.args.folder.now) c.args.directory.now c.args.files.now c.args.fact.now c.loop-file.file-index file (map (λ (keyed : Keyed). keyed.dimension) c.loop-file.dims.items) e c.loop-file-test.true c.file-item.is apart (c.loop-file.invariant empty) unmade))
 
 pub loop-file-preserved : goal.loop-file-preserved
 loop-file-preserved g c = λ empty.
@@ -34,7 +30,7 @@ loop-file-preserved g c = λ empty.
     let index = c.loop-file.file-index in
     let file = c.file-item.result in
     let dimension = c.in_ok-dimension.dimension.dimension in
-    let made = subst (λ table. (dimension.table.name ≡ table) × AreShown holds (csv_path folder table) dimension.table.columns × IsFirstKey holds (csv_path folder table) dimension) c.as_str-in-loop-file.ensures.value c.in_ok-dimension.ensures.made in
+    let made = subst (λ table. (dimension.table.name ≡ table) × (is_short_name table ≡ true) × AreShown holds (csv_path folder table) dimension.table.columns × IsFirstKey holds (csv_path folder table) dimension) c.as_str-in-loop-file.ensures.value c.in_ok-dimension.ensures.made in
     let apart = subst (λ table. bytes_eq table fact ≡ false) c.as_str.ensures.value (sym c.eq.ensures ∙ c.if-eq.false) in
     let more = one_dimension_more holds folder (others fact (take index files)) (map (λ (keyed : Keyed). keyed.dimension) c.loop-file.dims.items) file dimension (c.loop-file.invariant empty) made in
     let pushed = ap (map (λ (keyed : Keyed). keyed.dimension)) c.in_ok-push.ensures.items ∙ map-append (λ (keyed : Keyed). keyed.dimension) c.loop-file.dims.items (c.in_ok-dimension.dimension ∷ []) in

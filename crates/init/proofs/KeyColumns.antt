@@ -1,11 +1,17 @@
 -- The keys of a table, from column to column.
-use Rattle.std.proofs.Common.{◌≡◌, ℕ, zero, suc, ◌+◌, Bool, true, false, cond, not, List, [], ◌∷◌, ◌++◌, ap, sym, ◌∙◌, arith, append-nil, zero-add}
-use Rattle.std.specs.Prelude.{◌&&◌, filter, is_ok, slice_get}
+use Rattle.std.proofs.Common.{◌≡◌, ℕ, zero, suc, ◌+◌, Bool, true, false, cond, not, List, [], ◌∷◌, ◌++◌, ⊎_elim, ap, subst, sym, ◌∙◌, arith, append-nil, zero-add}
+use Rattle.std.specs.Prelude.{◌&&◌, Some, filter, is_ok, slice_get}
 use Rattle.std.specs.List.{range_with_len}
+use Rattle.std.proofs.lemmas.Bool.{cases_eq}
 use Rattle.std.proofs.lemmas.List.Elements.{filter-append}
 use Rattle.meaning.specs.declared.catalog.Table.{Table}
 use Rattle.meaning.specs.Records.{Record, dimension_of}
-use Rattle.init.specs.Keys.{is_key, is_nullable}
+use Rattle.loader.specs.Source.{csv_records}
+use Rattle.folders.specs.Folder.{Holds}
+use Rattle.init.specs.declared.fault.InitFault.{InitFault}
+use Rattle.init.specs.Guessing.{IsFirstFault, IsOtherFault}
+use Rattle.init.specs.Keys.{ArePassed, is_key, is_nullable, is_passed}
+use Rattle.init.specs.Refusing.{IsDimensionRefused}
 
 counted : (a n : ℕ) → range_with_len a (suc n) ≡ range_with_len a n ++ (a + n) ∷ []
 counted a zero = let same : a ≡ a + 0 = omega arith in ap (λ k. k ∷ []) same
@@ -33,3 +39,31 @@ module _ (table : Table) (records : List Record) where
   found_is_key tried_table index nullable found same is filled has =
       ap (λ (b : Bool). not b && is_ok (dimension_of (record { table = table; key = index }) records)) ((λ k. is_nullable (slice_get (sym same k).columns index)) ∙ sym is ∙ filled)
       ∙ (λ k. is_ok (dimension_of (record { table = sym same k; key = index }) records)) ∙ sym has
+
+  pub none_passed : ArePassed table records 0
+  none_passed earlier below filled = absurd (omega (arith, below))
+
+  pub passed_more : (index : ℕ) → ArePassed table records index → (is_nullable (slice_get table.columns index) ≡ false → is_passed (dimension_of (record { table = table; key = index }) records) ≡ true) → ArePassed table records (index + 1)
+  passed_more index so_far here earlier below filled =
+      ⊎_elim (λ (same : earlier ≡ index). subst (λ k. is_nullable (slice_get table.columns k) ≡ false → is_passed (dimension_of (record { table = table; key = k }) records) ≡ true) (sym same) here filled)
+      (λ apart. so_far earlier (omega (arith, below, apart)) filled) (cases_eq earlier index)
+
+  pub null_is_passed : (tried_table : Table) (index : ℕ) (nullable : Bool) → tried_table ≡ table → nullable ≡ is_nullable (slice_get tried_table.columns index) → nullable ≡ true
+      → is_nullable (slice_get table.columns index) ≡ false → is_passed (dimension_of (record { table = table; key = index }) records) ≡ true
+  null_is_passed tried_table index nullable same is null filled =
+      let bad : true ≡ false = sym null ∙ is ∙ (λ k. is_nullable (slice_get (same k).columns index)) ∙ filled in cc bad
+
+  pub tried_is_passed : (tried_table : Table) (index : ℕ) → tried_table ≡ table → is_passed (dimension_of (record { table = tried_table; key = index }) records) ≡ true
+      → is_nullable (slice_get table.columns index) ≡ false → is_passed (dimension_of (record { table = table; key = index }) records) ≡ true
+  tried_is_passed tried_table index same passed filled = subst (λ (t : Table). is_passed (dimension_of (record { table = t; key = index }) records) ≡ true) same passed
+
+-- the columns before the one under which the records are refused were passed
+pub first_fault : (holds : Holds) (path : List ℕ) (table tried_table : Table) (index : ℕ) (nullable : Bool) (e : InitFault) → tried_table ≡ table → nullable ≡ is_nullable (slice_get tried_table.columns index) → nullable ≡ false
+    → ((csv : List ℕ) → holds path ≡ Some csv → ArePassed table (csv_records csv) index) → IsDimensionRefused holds path (record { table = tried_table; key = index }) e → IsOtherFault e → IsFirstFault holds path table e
+first_fault holds path table tried_table index nullable e same is filled passed refused other = record {
+  index = index;
+  takes_no_null = (λ k. is_nullable (slice_get (sym same k).columns index)) ∙ sym is ∙ filled;
+  refused = subst (λ (t : Table). IsDimensionRefused holds path (record { table = t; key = index }) e) same refused;
+  other = other;
+  passed = passed;
+}

@@ -19,7 +19,8 @@ module _ (tries : List ℕ → Type 0) (holds : Holds) where
   untried_table path table _ of = tt
 
   untried_key : (path : List ℕ) (table : Table) (e : InitFault) → IsKeyRefused holds path table e → IsTriedFor tries e
-  untried_key path table (fault.Path file path_fault.CannotWrite) (inl (index, of)) = absurd of
+  untried_key path table (fault.Path file path_fault.CannotWrite) (inl (inl is)) = cc is
+  untried_key path table (fault.Path file path_fault.CannotWrite) (inl (inr first)) = absurd first.refused
   untried_key path table (fault.Path file path_fault.CannotWrite) (inr (keys, of, none)) = absurd of
   untried_key path table _ of = tt
 

@@ -1,5 +1,5 @@
 -- Why no catalogue is made for a folder: the first thing that is wrong, in the order in which one is guessed.
-use Rattle.std.specs.Prelude.{◌≡◌, ◌⊎◌, ℕ, ◌+◌, ◌<◌, ◌≤◌, Bool, true, false, List, [], ◌∷◌, ◌++◌, length, take, get_or, All, Option, None, Some, Result, Err, ⊤, string_bytes}
+use Rattle.std.specs.Prelude.{◌≡◌, ◌⊎◌, ℕ, ◌+◌, ◌<◌, ◌≤◌, Bool, true, false, List, [], ◌∷◌, ◌++◌, length, take, get_or, slice_get, All, Option, None, Some, Result, Err, ⊤, string_bytes}
 use Rattle.std.specs.List.{list_any}
 use Rattle.std.specs.Cmp.Lexicographic.{slice_cmp}
 use Rattle.std.specs.List.Sorted.{IsPermutation, IsSortedByKey}
@@ -19,7 +19,7 @@ use Rattle.init.specs.declared.fault.InitFault.TheVariants as fault
 use Rattle.init.specs.declared.fault.PathFault.TheVariants as path_fault
 use Rattle.init.specs.declared.listing.CsvFile.{CsvFile}
 use Rattle.init.specs.Guessed.{AreDimensionsOf, AreShown, IsGuess, others}
-use Rattle.init.specs.Keys.{keys_of}
+use Rattle.init.specs.Keys.{ArePassed, is_key_twice, is_nullable, keys_of}
 use Rattle.init.specs.Refusing.{IsCatalogRefused, IsDimensionRefused, IsNotAbsent, IsUnwritten}
 use Rattle.init.specs.Shown.{IsLack, is_short_name, shown}
 
@@ -62,13 +62,31 @@ IsKeyless path keys fault.Memory = ⊤
 IsKeyless path keys (fault.Path file path_fault.NoKey) = (string_bytes file ≡ path) × (keys ≡ [])
 IsKeyless path keys _ = ⊥
 
--- memory ran out, or the file of this path can't be read, or its records have a fault, with some column as the key
+-- the records aren't refused for a key that is there twice
+abbrev pub IsOtherFault : InitFault → Type 0
+IsOtherFault (fault.Table file e) = is_key_twice e ≡ false
+IsOtherFault _ = ⊤
+
+-- the file of this path can't be read, or its records have a fault, with the first column as the key that takes no NULL and under which they have one other than a key that is there twice
+pub record IsFirstFault (holds : Holds) (path : List ℕ) (table : Table) (e : InitFault) : Type 0 where
+  pub index : ℕ
+  pub takes_no_null : is_nullable (slice_get table.columns index) ≡ false
+  pub refused : IsDimensionRefused holds path (record { table = table; key = index }) e
+  pub other : IsOtherFault e
+  pub passed : (csv : List ℕ) → holds path ≡ Some csv → ArePassed table (csv_records csv) index
+
+-- memory ran out, or that is so
 abbrev pub AreRecordsRefused : Holds → List ℕ → Table → InitFault → Type 0
-AreRecordsRefused holds path table e = (index : ℕ) × IsDimensionRefused holds path (record { table = table; key = index }) e
+AreRecordsRefused holds path table e = (e ≡ fault.Memory) ⊎ IsFirstFault holds path table e
+
+-- memory ran out, or no column may be the key and none is refused for anything but a key that is there twice
+abbrev pub IsUnkeyed : Holds → List ℕ → Table → InitFault → Type 0
+IsUnkeyed holds path table e = (keys : List ℕ) × IsKeyless path keys e
+    × ((csv : List ℕ) → holds path ≡ Some csv → (keys ≡ keys_of table (csv_records csv)) × ArePassed table (csv_records csv) (length table.columns))
 
 -- the table's records are refused, or it has no key
 abbrev pub IsKeyRefused : Holds → List ℕ → Table → InitFault → Type 0
-IsKeyRefused holds path table e = AreRecordsRefused holds path table e ⊎ ((keys : List ℕ) × IsKeyless path keys e × ((csv : List ℕ) → holds path ≡ Some csv → keys ≡ keys_of table (csv_records csv)))
+IsKeyRefused holds path table e = AreRecordsRefused holds path table e ⊎ IsUnkeyed holds path table e
 
 -- memory ran out, or standard error failed
 abbrev pub IsUnreported : InitFault → Type 0

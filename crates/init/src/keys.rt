@@ -1,10 +1,10 @@
 //! The columns that may be the key of a dimension.
-ghost use Rattle.std.specs.Prelude.{◌≡◌, ◌∷◌, ℕ, List, slice_get, Some, is_ok, IfErr, IfOk, OnOk};
+ghost use Rattle.std.specs.Prelude.{◌≡◌, ◌∷◌, ℕ, true, List, length, slice_get, Some, is_ok, IfErr, IfOk, OnOk};
 ghost use Rattle.meaning.specs.Records.{dimension_of};
 ghost use Rattle.loader.specs.Source.{csv_records};
 ghost use Rattle.folders.specs.Folder.{csv_path};
-ghost use Rattle.init.specs.Guessing.{AreRecordsRefused, IsKeyless, IsKeyRefused};
-ghost use Rattle.init.specs.Keys.{is_nullable, keys_of};
+ghost use Rattle.init.specs.Guessing.{AreRecordsRefused, IsKeyless, IsKeyRefused, IsOtherFault};
+ghost use Rattle.init.specs.Keys.{ArePassed, is_nullable, is_passed, keys_of};
 ghost use Rattle.init.specs.Refusing.{IsAskedFor, IsDimensionRefused};
 
 use crate::checking::opened;
@@ -32,8 +32,11 @@ fn has_key<F: Folder>(
 ) -> Result<bool, InitFault>
     ensures found { IfOk result (λ found. (csv : List ℕ) → F.holds folder.now path.now ≡ Some csv
         → found ≡ is_ok (dimension_of dimension.now (csv_records csv))) }
+    ensures passed { OnOk result ((csv : List ℕ) → F.holds folder.now path.now ≡ Some csv
+        → is_passed (dimension_of dimension.now (csv_records csv)) ≡ true) }
     ensures refused { IfErr result
         (IsDimensionRefused (F.holds folder.now) path.now dimension.now) }
+    ensures other { IfErr result IsOtherFault }
     ensures unread { IfErr result (IsAskedFor (F.asks folder.now)) }
 {
     let file = opened(folder, path)?;
@@ -63,6 +66,9 @@ fn keys_of<F: Folder>(
     ensures table { OnOk result (dimension.new.table ≡ dimension.old.table) }
     ensures keys { IfOk result (λ keys. (csv : List ℕ) → F.holds folder.now path.now ≡ Some csv
         → keys.items ≡ keys_of dimension.old.table (csv_records csv)) }
+    ensures passed { OnOk result ((csv : List ℕ) → F.holds folder.now path.now ≡ Some csv
+        → ArePassed dimension.old.table (csv_records csv)
+        (length dimension.old.table.columns)) }
     ensures refused { IfErr result
         (AreRecordsRefused (F.holds folder.now) path.now dimension.old.table) }
     ensures unread { IfErr result (IsAskedFor (F.asks folder.now)) }

@@ -1,5 +1,5 @@
 -- Proofs of the goals of `with_key` (`keys`).
-use Rattle.std.proofs.Common.{◌≡◌, ◌∙◌, Some, ap, inl, subst, sym}
+use Rattle.std.proofs.Common.{◌≡◌, ◌∙◌, Some, ap, inl, refl, subst, sym}
 use Rattle.std.proofs.lemmas.Result.{IfErr-weaker, IfOk-weaker}
 use Rattle.folders.specs.Folder.{csv_path}
 use Rattle.init.specs.Guessing.{IsKeyRefused}
@@ -18,4 +18,4 @@ returns-in-Ok-clause-refused g c =
     IfErr-weaker c.with_key_of.result _ _ (λ e refused. subst (λ path. IsKeyRefused holds path c.args.table e) same refused) c.with_key_of.ensures.refused
 
 pub returns-in-Err-clause-refused : goal.returns-in-Err-clause-refused
-returns-in-Err-clause-refused g c = inl (0, tt)
+returns-in-Err-clause-refused g c = inl (inl refl)

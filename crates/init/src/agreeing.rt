@@ -1,17 +1,18 @@
 //! Whether a catalogue declares given tables.
-ghost use Rattle.std.specs.Prelude.{◌≡◌, true, map};
+ghost use Rattle.std.specs.Prelude.{◌≡◌, map};
+ghost use Rattle.std.specs.Bool.{Decides};
 
 use crate::keys::Keyed;
 use meaning::{Catalog, Column, Dimension, Table};
 
 fn is_same_column(own: &Column, other: &Column) -> bool
-    ensures { (result ≡ true) → own.now ≡ other.now }
+    ensures { Decides result (own.now ≡ other.now) }
 {
     own.name == other.name && own.col_type == other.col_type && own.nullable == other.nullable
 }
 
 fn are_same_columns(own: &[Column], others: &[Column]) -> bool
-    ensures { (result ≡ true) → own.now ≡ others.now }
+    ensures { Decides result (own.now ≡ others.now) }
 {
     if own.len() != others.len() {
         return false;
@@ -25,19 +26,19 @@ fn are_same_columns(own: &[Column], others: &[Column]) -> bool
 }
 
 fn is_same_table(own: &Table, other: &Table) -> bool
-    ensures { (result ≡ true) → own.now ≡ other.now }
+    ensures { Decides result (own.now ≡ other.now) }
 {
     own.name == other.name && are_same_columns(own.columns.as_slice(), other.columns.as_slice())
 }
 
 fn is_same_dimension(own: &Dimension, other: &Dimension) -> bool
-    ensures { (result ≡ true) → own.now ≡ other.now }
+    ensures { Decides result (own.now ≡ other.now) }
 {
     own.key == other.key && is_same_table(&own.table, &other.table)
 }
 
 fn are_dimensions(own: &[Dimension], others: &[Keyed]) -> bool
-    ensures { (result ≡ true) → own.now ≡ map (λ keyed. keyed.dimension) others.now }
+    ensures { Decides result (own.now ≡ map (λ keyed. keyed.dimension) others.now) }
 {
     if own.len() != others.len() {
         return false;
@@ -52,8 +53,8 @@ fn are_dimensions(own: &[Dimension], others: &[Keyed]) -> bool
 
 /// Whether the catalogue has this fact and these dimensions.
 pub fn has_tables(catalog: &Catalog, fact: &Table, dims: &[Keyed]) -> bool
-    ensures fact { (result ≡ true) → catalog.now.fact ≡ fact.now }
-    ensures dims { (result ≡ true) → catalog.now.dims ≡ map (λ keyed. keyed.dimension) dims.now }
+    ensures { Decides result ((catalog.now.fact ≡ fact.now)
+        × (catalog.now.dims ≡ map (λ keyed. keyed.dimension) dims.now)) }
 {
     is_same_table(&catalog.fact, fact) && are_dimensions(catalog.dims.as_slice(), dims)
 }

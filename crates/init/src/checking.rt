@@ -1,5 +1,6 @@
 //! Whether a folder's files load under a catalogue.
 ghost use Rattle.std.specs.Prelude.{◌≡◌, ◌≤◌, ℕ, List, All, IfErr, IfOk, IfSome, OnOk, Err, Result, Some, length, drop, map, sum};
+ghost use Rattle.std.specs.Bool.{Decides};
 ghost use Rattle.meaning.specs.declared.table.TableFault.{TableFault as Fault};
 ghost use Rattle.meaning.specs.Records.{dimension_of};
 ghost use Rattle.columns.specs.Column.{ColumnSpec};
@@ -233,7 +234,22 @@ fn check_tables<F: Folder>(
     check_dimensions(alloc, folder, directory, catalog.dims.as_slice())
 }
 
-// Refuses a text whose catalogue has other tables.
+// Whether a text declares a catalogue of these tables.
+fn declares(alloc: Global, text: &[u8], fact: &Table, dims: &[Keyed]) -> Result<bool, InitFault>
+    ensures exact { IfOk result (λ found. Decides found
+        (Declares fact.now (map (λ keyed. keyed.dimension) dims.now) text.now)) }
+    ensures refused { IfErr result (IsNoCatalog text.now) }
+{
+    let catalog = match read_catalog(alloc, text) {
+        Ok(catalog) => catalog,
+        Err(fault) => return Err(InitFault::from(fault)),
+    };
+    let found = has_tables(&catalog, fact, dims);
+    drop(catalog);
+    Ok(found)
+}
+
+/// Refuses a text that doesn't declare a catalogue of these tables.
 pub fn check_declared(
     alloc: Global,
     text: &[u8],
@@ -243,13 +259,7 @@ pub fn check_declared(
     ensures declared { OnOk result (Declares fact.now (map (λ keyed. keyed.dimension) dims.now) text.now) }
     ensures refused { IfErr result (IsNoCatalog text.now) }
 {
-    let catalog = match read_catalog(alloc, text) {
-        Ok(catalog) => catalog,
-        Err(fault) => return Err(InitFault::from(fault)),
-    };
-    let is_declared = has_tables(&catalog, fact, dims);
-    drop(catalog);
-    if is_declared {
+    if declares(alloc, text, fact, dims)? {
         Ok(())
     } else {
         // No text is made with others.

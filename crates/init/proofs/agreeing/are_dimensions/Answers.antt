@@ -15,5 +15,5 @@ loop-index-preserved c =
     let within : index < length others = omega (arith, below, c.if-own-others.false) in
     let behind : index < length (map (λ (keyed : Keyed). keyed.dimension) others) = omega (arith, within, length-map others (λ (keyed : Keyed). keyed.dimension)) in
     take_more_same own (map (λ keyed. keyed.dimension) others) index d below behind c.loop-index.invariant (
-    sym c.index-own-index.is ∙ c.is_same_dimension.ensures c.if-not-is_same_dimension.false ∙ sym (get_or-map (λ (keyed : Keyed). keyed.dimension) others index other d within)
+    sym c.index-own-index.is ∙ c.is_same_dimension.ensures.0 c.if-not-is_same_dimension.false ∙ sym (get_or-map (λ (keyed : Keyed). keyed.dimension) others index other d within)
     )

@@ -18,7 +18,7 @@ use Rattle.answer_fields.specs.declared.format.Format.{Format}
 use Rattle.answer_text.specs.Reading.{answer_at, from_fragment_at, seal_at, sealed_body_at, shaped_at}
 
 -- what a part is made of
-mapped : {A B : Type 0} (read : Read DecodeFault A) (make : A → B) (p : B × List ℕ) → (read >>= λ x. Ok (make x.0, x.1)) ≡ Ok p → (a : A) × (read ≡ Ok (a, p.1)) × (make a ≡ p.0)
+pub mapped : {A B : Type 0} (read : Read DecodeFault A) (make : A → B) (p : B × List ℕ) → (read >>= λ x. Ok (make x.0, x.1)) ≡ Ok p → (a : A) × (read ≡ Ok (a, p.1)) × (make a ≡ p.0)
 mapped {A} {B} (Ok x) make p e =
     let same = ok_is (make x.0, x.1) p e in
     (x.0, ap (λ (t : List ℕ). Ok (x.0, t)) (ap (λ (q : B × List ℕ). q.1) same), ap (λ (q : B × List ℕ). q.0) same)

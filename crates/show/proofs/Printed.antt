@@ -16,7 +16,8 @@ use Rattle.answer_text.specs.Texts.{answer_text}
 use Rattle.wire.proofs.Numbers.{IsBytes}
 use Rattle.wire.specs.Reading.{Read}
 use Rattle.answer_text.proofs.Spelled.{answer_spelled}
-use Rattle.show.proofs.Begins.{begins_as_answer}
+use Rattle.show.proofs.Begins.{begins_as_answer, begins_as_state}
+use Rattle.show.proofs.StateSpelled.{state_spelled}
 
 pub ended_so : {E : Type 0} {P : Type 0} (r : Result (Unit {0}) E) → IsOk r → OnOk r P → P
 ended_so (Ok done) ok said = said
@@ -40,6 +41,12 @@ module _ (bytes : List ℕ) (known : Option ℕ) (front text : List ℕ) (before
       let spelled = answer_spelled bytes format (drop 4 bytes) l rest ok begun read in
       (l, spelled.0, spelled.1, subst (λ t. Appends before after t) (ap (λ f. f ++ text) none ∙ is) appends)
 
+  state_so : (format : Format) (options : ShowOptions) → IsBytes bytes → front ≡ [] → kind_of bytes ≡ Some (kind.State format) → IsRead (state_at format) (held_state_text (detail_of options) (length bytes)) bytes text
+      → IsPrinted (kind.State format) bytes options options.rows before after
+  state_so format options ok none begins (l, rest, read, is) =
+      let spelled = state_spelled bytes format (drop 4 bytes) l rest ok (begins_as_state bytes format begins) read in
+      (l, spelled.0, spelled.1, subst (λ t. Appends before after t) (ap (λ f. f ++ text) none ∙ is) appends)
+
   read_so : {Y : Type 0} (read : List ℕ → List ℕ → Read DecodeFault Y) (text_of : Y → List ℕ) → front ≡ [] → IsRead read text_of bytes text → PrintsRead read text_of bytes before after
   read_so read text_of none (y, rest, there, is) = (y, rest, there, subst (λ t. Appends before after t) (ap (λ f. f ++ text) none ∙ is) appends)
 
@@ -53,5 +60,5 @@ module _ (bytes : List ℕ) (known : Option ℕ) (front text : List ℕ) (before
   )
   printed kind.Cut options most ok begins (is, parts) known_so = behind kind.Cut is
   printed (kind.Answer format) options most ok begins (is, parts) known_so = spelled_so format options ok is begins parts
-  printed (kind.State format) options most ok begins (is, parts) known_so = read_so (state_at format) (held_state_text (detail_of options) (length bytes)) is parts
+  printed (kind.State format) options most ok begins (is, parts) known_so = state_so format options ok is begins parts
   printed kind.Journal options most ok begins (is, parts) known_so = read_so journal_at (journal_text (detail_of options) 0 (length bytes)) is parts

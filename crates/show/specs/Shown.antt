@@ -16,6 +16,7 @@ use Rattle.answer_fields.specs.Spelling.{Layout, layout_bytes}
 use Rattle.wire.specs.Bytes.{sealed}
 use Rattle.wire.specs.Reading.{Read}
 use Rattle.answer_fields.specs.declared.fault.DecodeFault.{DecodeFault}
+use Rattle.answer_fields.specs.StateSpelling.{StateLayout, state_layout_bytes}
 use Rattle.answer_text.specs.Journals.{journal_at, journal_text}
 use Rattle.answer_text.specs.Reading.{answer_at, state_at}
 use Rattle.answer_text.specs.StateTexts.{held_state_text}
@@ -91,12 +92,13 @@ IsText kind bytes options most known front text = (front ≡ front_of kind (leng
 abbrev pub PrintsRead : {Y : Type 0} → (List ℕ → List ℕ → Read DecodeFault Y) → (Y → List ℕ) → List ℕ → Option (List ℕ) → Option (List ℕ) → Type 0
 PrintsRead {Y} read text_of bytes before after = (y : Y) × (rest : List ℕ) × (read bytes (drop 4 bytes) ≡ Ok (y, rest)) × Appends before after (text_of y)
 
--- The same of what is printed of a file that has no fault. An answer's bytes are spelled by the fields that are printed; those of a
--- state or a journal are read as the fields that are printed.
+-- The same of what is printed of a file that has no fault. The bytes of an answer or a state are spelled by the fields that are
+-- printed; those of a journal are read as them.
 abbrev pub IsPrinted : FileKind → List ℕ → ShowOptions → Option ℕ → Option (List ℕ) → Option (List ℕ) → Type 0
 IsPrinted kind.Table bytes options (Some most) before after = (rows : ℕ) × HasRows bytes rows × AppendsRecords (1 + min most rows) before after
 IsPrinted (kind.Answer f) bytes options most before after = (l : Layout) × (l.format ≡ f) × (bytes ≡ sealed (layout_bytes l)) × Appends before after (answer_text (detail_of options) (length bytes) l)
-IsPrinted (kind.State f) bytes options most before after = PrintsRead (state_at f) (held_state_text (detail_of options) (length bytes)) bytes before after
+IsPrinted (kind.State f) bytes options most before after =
+    (l : StateLayout) × (l.format ≡ f) × (bytes ≡ sealed (state_layout_bytes l)) × Appends before after (held_state_text (detail_of options) (length bytes) l)
 IsPrinted kind.Journal bytes options most before after = PrintsRead journal_at (journal_text (detail_of options) 0 (length bytes)) bytes before after
 IsPrinted kind bytes options most before after = (rest : List ℕ) × Appends before after (front_of kind (length bytes) ++ rest)
 

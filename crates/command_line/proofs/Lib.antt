@@ -1,5 +1,5 @@
 -- The lemmas of this crate.
-mod Among
+pub mod Among
 mod Opened
 mod Steps
 mod Taken

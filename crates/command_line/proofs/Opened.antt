@@ -1,5 +1,5 @@
 -- What the first of several words can be.
-use Rattle.std.proofs.Common.{◌≡◌, ◌≢◌, ℕ, ◌+◌, ◌<◌, ◌==◌, true, List, [], ◌∷◌, ◌++◌, length, drop, get_or, refl, sym, subst, ap, ◌∙◌, codes, arith}
+use Rattle.std.proofs.Common.{◌≡◌, ◌≢◌, ℕ, ◌+◌, ◌<◌, ◌==◌, true, List, [], ◌∷◌, ◌++◌, length, drop, get_or, refl, sym, subst, ap, ◌∙◌, codes, arith, inl, inr}
 use Rattle.std.proofs.Math.Seq.{get_or-append_seam}
 use Rattle.std.proofs.lemmas.List.{get_or-append-add, length-append}
 use Rattle.std.specs.List.{list_any}
@@ -45,7 +45,9 @@ has_equals [] right = refl
 has_equals (x ∷ left) right = grind (arith, has_equals left right)
 
 pub flag_no_equals : (name left right : Word) → IsFlag name → name ≡ left ++ (61 ∷ right) → ⊥
-flag_no_equals name left right a_flag is =
+flag_no_equals name left right (inl a_flag) is =
+    let both = ap (list_any (λ x. x == 61)) (sym a_flag ∙ is) ∙ has_equals left right in cc
+flag_no_equals name left right (inr a_flag) is =
     let both = ap (list_any (λ x. x == 61)) (sym a_flag ∙ is) ∙ has_equals left right in cc
 
 pub some_split : (left right : Word) → left ++ (61 ∷ right) ≡ [] → ⊥
@@ -53,7 +55,8 @@ some_split [] right is = cc
 some_split (x ∷ left) right is = cc
 
 pub flag_some : (name : Word) → IsFlag name → name ≡ [] → ⊥
-flag_some name a_flag none = let long : 7 ≡ 0 = ap length (sym a_flag ∙ none) in omega (arith, long)
+flag_some name (inl a_flag) none = let long : 7 ≡ 0 = ap length (sym a_flag ∙ none) in omega (arith, long)
+flag_some name (inr a_flag) none = let long : 6 ≡ 0 = ap length (sym a_flag ∙ none) in omega (arith, long)
 
 name_tail : (x : ℕ) (xs : Word) → IsName (x ∷ xs) → IsName xs
 name_tail x xs a_name = λ i below. subst (λ n. n ≢ 61) (get_or-append-add (x ∷ []) xs i 0) (a_name (1 + i) (omega (arith, below)))

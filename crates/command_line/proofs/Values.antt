@@ -1,12 +1,12 @@
 -- The values of an option among one more.
-use Rattle.std.proofs.Common.{◌≡◌, ℕ, ◌+◌, ◌<◌, codes, inl, inr, List, [], ◌∷◌, ◌++◌, length, take, map, get_or, subst, sym, ap, ◌∙◌, nat_eq}
+use Rattle.std.proofs.Common.{◌≡◌, ℕ, ◌+◌, ◌<◌, ◌≤◌, arith, codes, inl, inr, Option, None, Some, List, [], ◌∷◌, ◌++◌, length, take, map, get_or, subst, sym, ap, ◌∙◌, nat_eq}
 use Rattle.std.proofs.lemmas.List.{take_more, map-append}
 use Rattle.std.proofs.lemmas.List.Elements.{filter-append}
 use Rattle.std.specs.Prelude.{filter}
 use Rattle.std.specs.Cmp.Lexicographic.{pointwise}
 use Rattle.command_line.specs.Words.{Named, Word, named_of, values}
 use Rattle.command_line.specs.Found.{IsFound}
-use Rattle.command_line.specs.Said.{HasNumber, HasVector}
+use Rattle.command_line.specs.Said.{HasNumber, HasNumberOrNone, HasVector}
 use Rattle.command_line.specs.declared.found.Found.{Found}
 use Rattle.command_line.specs.declared.parts.Given.{Given}
 
@@ -33,3 +33,8 @@ found_again vs more (first, second, rest, are) = (first, second, rest ++ more, a
 pub vector_once : (named : List Named) (text : Word) (n : ℕ) → values (codes "vector") named ≡ text ∷ [] → HasVector named n → HasNumber (codes "vector") named n
 vector_once named text n once (inl said) = said
 vector_once named text n once (inr (none, is)) = let no : [] ≡ text ∷ [] = sym none ∙ once in absurd cc
+
+-- the option stands there, and its digits are no number of 32 bits
+pub no_number : (name : Word) (named : List Named) (text : Word) (n : Option ℕ) → values name named ≡ text ∷ [] → ((n : ℕ) → 0 ≤ n → n ≤ 4294967295 → HasNumber name named n → None ≡ Some n) → HasNumberOrNone name named n → ⊥
+no_number name named text None once only none = let no : [] ≡ text ∷ [] = sym none ∙ once in cc
+no_number name named text (Some n) once only (said, fits) = let no : None ≡ Some n = only n (omega arith) (omega (arith, fits)) said in cc

@@ -20,6 +20,11 @@ HasTextOrNone name named None = values name named ≡ []
 abbrev pub HasNumber : Word → List Named → ℕ → Type 0
 HasNumber name named n = (digits : Word) × HasText name named digits × IsNumber digits n
 
+-- the option, with digits of this number, which has 32 bits, or neither
+abbrev pub HasNumberOrNone : Word → List Named → Option ℕ → Type 0
+HasNumberOrNone name named (Some n) = HasNumber name named n × (n < 2 ^ 32)
+HasNumberOrNone name named None = values name named ≡ []
+
 -- the option, with digits of this number, or no such option and 1,024
 abbrev pub HasVector : List Named → ℕ → Type 0
 HasVector named n = HasNumber (codes "vector") named n ⊎ ((values (codes "vector") named ≡ []) × (n ≡ 1024))

@@ -18,9 +18,9 @@ Named = Word × Word
 abbrev pub IsName : Word → Type 0
 IsName name = (i : ℕ) → i < length name → get_or name i 0 ≢ 61
 
--- an option that has no value
+-- an option that has no value, of `gather` or of the tool `show`
 abbrev pub IsFlag : Word → Type 0
-IsFlag name = name ≡ codes "preview"
+IsFlag name = (name ≡ codes "preview") ⊎ (name ≡ codes "groups")
 
 -- no hyphen in front, or a hyphen alone
 abbrev pub IsPlain : Word → Type 0

@@ -10,5 +10,7 @@ mod reading;
 mod usage_fault;
 
 pub use commands::{Command, GatherCommand, WorkCommand};
-pub use parsing::command;
+pub use parsing::{command, refusal_by, text_if_any, texts};
+pub use parts::Parts;
+pub use reading::parts_of;
 pub use usage_fault::UsageFault;

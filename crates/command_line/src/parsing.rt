@@ -8,7 +8,7 @@ ghost use Rattle.command_line.specs.Usage.{IsUsage};
 use crate::commands::{Command, GatherCommand, WorkCommand};
 use crate::parser::parser;
 use crate::parts::Parts;
-use crate::reading::read;
+use crate::reading::parts_of;
 use crate::usage_fault::UsageFault;
 use clap::error::ErrorKind;
 use meaning::{MAX_FRAGMENTS, MAX_ROWS, Sequence, Text};
@@ -39,7 +39,8 @@ fn refusal(alloc: Global, words: &[&str]) -> Result<UsageFault, AllocError>
     Ok(refusal)
 }
 
-fn refusal_by<'a>(parser: &mut clap::Command<'a>, words: &'a [&'a str]) -> UsageFault
+/// Why the parser refuses the words, or its help where they ask for it.
+pub fn refusal_by<'a>(parser: &mut clap::Command<'a>, words: &'a [&'a str]) -> UsageFault
     ensures { IsUsage result }
 {
     match parser.try_get_matches_from_mut(words) {
@@ -69,7 +70,7 @@ fn said(alloc: Global, words: &[&str]) -> Result<Option<Command>, AllocError>
     let Some((name, words)) = words.split_first() else {
         return Ok(None);
     };
-    let Some(parts) = read(alloc, words)? else {
+    let Some(parts) = parts_of(alloc, words)? else {
         return Ok(None);
     };
     of_name(alloc, name, &parts)
@@ -260,7 +261,8 @@ fn gather_command(
     })
 }
 
-fn text_if_any(alloc: Global, text: Option<&str>) -> Result<Option<Text>, AllocError>
+/// The text, where there is one.
+pub fn text_if_any(alloc: Global, text: Option<&str>) -> Result<Option<Text>, AllocError>
     ensures { IfOk result (λ t. t ≡ option_map (λ s. s.now) text.entry) }
 {
     match text {
@@ -269,7 +271,8 @@ fn text_if_any(alloc: Global, text: Option<&str>) -> Result<Option<Text>, AllocE
     }
 }
 
-fn texts(alloc: Global, words: &[&str]) -> Result<Sequence<Text>, AllocError>
+/// The words as texts.
+pub fn texts(alloc: Global, words: &[&str]) -> Result<Sequence<Text>, AllocError>
     ensures { IfOk result (λ texts. texts ≡ map (λ w. w.now) words.now) }
 {
     let mut texts = Sequence::new(alloc);

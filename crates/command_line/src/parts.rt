@@ -5,7 +5,7 @@ ghost use Rattle.std.specs.List.{list_all, list_any};
 ghost use Rattle.std.specs.Vec.{vec_items};
 ghost use Rattle.meaning.specs.Limits.{max_vector_rows};
 ghost use Rattle.command_line.specs.Found.{IsFound};
-ghost use Rattle.command_line.specs.Said.{HasNumber, HasText, HasTextOrNone, HasVector};
+ghost use Rattle.command_line.specs.Said.{HasNumber, HasNumberOrNone, HasText, HasTextOrNone, HasVector};
 ghost use Rattle.command_line.specs.Steps.{flags_of, given_of, plain_of};
 ghost use Rattle.command_line.specs.Words.{IsNumber, Word, values};
 
@@ -175,6 +175,20 @@ impl<'a> Parts<'a> {
             return None;
         }
         Some(number as u32)
+    }
+
+    /// The number of 32 bits that the digits of an option say that stands there once, or that it doesn't
+    /// stand there; else nothing.
+    pub fn number_if_any(&self, name: &str) -> Option<Option<u32>>
+        ensures said { IfSome result (HasNumberOrNone name.now (given_of self.now)) }
+        ensures only { (n : Option ℕ) → HasNumberOrNone name.now (given_of self.now) n
+            → result ≡ Some n }
+    {
+        match self.find(name) {
+            Found::Nothing => Some(None),
+            Found::Once(_) => Some(Some(self.number_within(name, 0, u32::MAX)?)),
+            Found::Often => None,
+        }
     }
 
     /// How many rows a vector has: 1,024 where no word says it.

@@ -16,7 +16,7 @@ enum Next<'a> {
 }
 
 /// The parts of the words behind a command's name, where they have parts.
-pub fn read<'a>(alloc: Global, words: &[&'a str]) -> Result<Option<Parts<'a>>, AllocError>
+pub fn parts_of<'a>(alloc: Global, words: &[&'a str]) -> Result<Option<Parts<'a>>, AllocError>
     ensures parts { IfOk result (λ o. IfSome o
         (λ p. AreParts (map (λ w. w.now) words.now) (given_of p) (flags_of p) (plain_of p))) }
     ensures only { IfOk result (AreOnly (map (λ w. w.now) words.now)) }
@@ -91,7 +91,7 @@ fn is_flag(name: &str) -> bool
     ensures flag { result ≡ true → IsFlag name.now }
     ensures valued { result ≡ false → IsFlag name.now → ⊥ }
 {
-    name == "preview"
+    name == "preview" || name == "groups"
 }
 
 // A name with no `=`.

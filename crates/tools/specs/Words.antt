@@ -1,7 +1,5 @@
--- Which words ask for a tool.
-use Rattle.std.specs.Prelude.{◌≡◌, ℕ, Bool, false, ◌||◌, if◌then◌else◌, List, [], ◌∷◌, codes, bytes_eq}
-use Rattle.tools.specs.declared.words.Tool.{Tool}
-use Rattle.tools.specs.declared.words.Tool.TheVariants.{Explain, Init, Refusal, Show}
+-- Which words begin as those of a tool.
+use Rattle.std.specs.Prelude.{ℕ, Bool, false, ◌||◌, if◌then◌else◌, List, [], ◌∷◌, codes, bytes_eq}
 
 abbrev pub is_tool : List ℕ → Bool
 is_tool word = (((bytes_eq word (codes "init") || bytes_eq word (codes "explain")) || bytes_eq word (codes "show"))
@@ -16,14 +14,3 @@ begins_with_tool (word ∷ words) = is_tool word
 abbrev pub asks_tool : List (List ℕ) → Bool
 asks_tool [] = false
 asks_tool (word ∷ words) = if bytes_eq word (codes "help") then begins_with_tool words else is_tool word
-
-abbrev pub name_of : Tool → List ℕ
-name_of (Init words) = codes "init"
-name_of (Refusal words) = codes "refusal"
-name_of (Explain words) = codes "explain"
-name_of (Show words) = codes "show"
-
--- the first of the words is the tool's name
-abbrev pub AreWordsOf : List (List ℕ) → Tool → Type 0
-AreWordsOf [] tool = ⊥
-AreWordsOf (word ∷ words) tool = name_of tool ≡ word

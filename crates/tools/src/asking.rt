@@ -1,13 +1,14 @@
 //! The tool that words ask for.
 ghost use Rattle.std.specs.Prelude.{◌≡◌, None, Ok, IfErr, IfOk, IfSome, IsSome, codes, false, map, true};
+ghost use Rattle.command_line.specs.Steps.{flags_of, given_of, plain_of};
 ghost use Rattle.command_line.specs.Usage.{IsUsage};
-ghost use Rattle.tools.specs.Words.{AreWordsOf, asks_tool, begins_with_tool, is_tool, name_of};
+ghost use Rattle.tools.specs.Said.{AreWordsOf, IsMadeOf, IsOf, IsReadOff, TakesWords};
+ghost use Rattle.tools.specs.Words.{asks_tool, begins_with_tool, is_tool};
 
 use crate::parser::parser;
 use crate::words::{ExplainWords, InitWords, ShowWords, Tool};
-use clap::ArgMatches;
-use command_line::UsageFault;
-use meaning::{Sequence, Text};
+use command_line::{Parts, UsageFault, parts_of, refusal_by, text_if_any, texts};
+use meaning::Text;
 use std::alloc::{AllocError, Global};
 use std::mem::drop;
 
@@ -28,7 +29,7 @@ fn begins_with_tool(words: &[&str]) -> bool
     is_tool(word)
 }
 
-// Whether they ask for a tool, or for help on one.
+// Whether they begin as those of a tool, or ask for help on one.
 fn asks_tool(words: &[&str]) -> bool
     ensures { result ≡ asks_tool (map (λ w. w.now) words.now) }
 {
@@ -41,47 +42,39 @@ fn asks_tool(words: &[&str]) -> bool
     is_tool(word)
 }
 
-/// The tool that the words behind the program's name ask for; none where they ask for no tool, and
-/// may be another command. `clap` says which words of a tool are none, and why.
+/// The tool that the words behind the program's name ask for; none where they don't begin as those
+/// of a tool, and may be another command. It is read off the words; where they ask for none, `clap`
+/// says why.
 pub fn asked(alloc: Global, words: &[&str]) -> Result<Option<Tool>, UsageFault>
     ensures none { asks_tool (map (λ w. w.now) words.now) ≡ false → result ≡ Ok None }
     ensures some { asks_tool (map (λ w. w.now) words.now) ≡ true
         → IfOk result (λ found. IsSome found) }
-    ensures named { IfOk result
+    ensures said { IfOk result
         (λ found. IfSome found (AreWordsOf (map (λ w. w.now) words.now))) }
+    ensures taken { TakesWords (map (λ w. w.now) words.now) result }
     ensures worded { IfErr result IsUsage }
 {
     if !asks_tool(words) {
         return Ok(None);
     }
-    let mut parser = parser(alloc)?;
-    let tool = parsed(alloc, &mut parser, words);
-    drop(parser);
-    match tool {
-        Ok(tool) => Ok(Some(tool)),
-        Err(fault) => Err(fault),
+    match said(alloc, words)? {
+        Some(tool) => Ok(Some(tool)),
+        None => Err(refusal(alloc, words)?),
     }
 }
 
-fn parsed<'a>(
-    alloc: Global,
-    parser: &mut clap::Command<'a>,
-    words: &'a [&'a str],
-) -> Result<Tool, UsageFault>
-    ensures named { IfOk result (AreWordsOf (map (λ w. w.now) words.now)) }
-    ensures worded { IfErr result IsUsage }
+// Why the words ask for no tool, or the list of the tools.
+fn refusal(alloc: Global, words: &[&str]) -> Result<UsageFault, AllocError>
+    ensures { IfOk result IsUsage }
 {
-    if asks_list(words) {
-        return Err(list(parser));
-    }
-    let matches = parser.try_get_matches_from_mut(words)?;
-    let tool = tool_in(alloc, words, &matches);
-    drop(matches);
-    match tool {
-        Ok(Some(tool)) => Ok(tool),
-        Ok(None) => Err(UsageFault::Memory),
-        Err(_) => Err(UsageFault::Memory),
-    }
+    let mut parser = parser(alloc)?;
+    let refusal = if asks_list(words) {
+        refusal_by(&mut parser, HELP)
+    } else {
+        refusal_by(&mut parser, words)
+    };
+    drop(parser);
+    Ok(refusal)
 }
 
 fn asks_list(words: &[&str]) -> bool {
@@ -91,66 +84,76 @@ fn asks_list(words: &[&str]) -> bool {
     }
 }
 
-// The list of the tools, which is clap's help.
-fn list(parser: &mut clap::Command<'_>) -> UsageFault
-    ensures { IsUsage result }
+fn said(alloc: Global, words: &[&str]) -> Result<Option<Tool>, AllocError>
+    ensures said { IfOk result (λ o. IfSome o (AreWordsOf (map (λ w. w.now) words.now))) }
+    ensures only { IfOk result (IsReadOff (map (λ w. w.now) words.now)) }
 {
-    match parser.try_get_matches_from_mut(HELP) {
-        Ok(_) => UsageFault::Memory,
-        Err(error) => UsageFault::from(error),
-    }
-}
-
-// None where the parser took other words than these.
-fn tool_in(
-    alloc: Global,
-    words: &[&str],
-    matches: &ArgMatches<'_>,
-) -> Result<Option<Tool>, AllocError>
-    ensures { IfOk result (λ found. IfSome found (AreWordsOf (map (λ w. w.now) words.now))) }
-{
-    let Some((word, _)) = words.split_first() else {
+    let Some((name, words)) = words.split_first() else {
         return Ok(None);
     };
-    match matches.subcommand() {
-        Some((name, found)) => {
-            if name != *word {
-                return Ok(None);
-            }
-            tool_of(alloc, word, found)
-        }
-        None => Ok(None),
-    }
+    let Some(parts) = parts_of(alloc, words)? else {
+        return Ok(None);
+    };
+    of_name(alloc, name, &parts)
 }
 
-// The tool of this name; none where its words aren't there.
-fn tool_of(alloc: Global, name: &str, found: &ArgMatches<'_>) -> Result<Option<Tool>, AllocError>
-    ensures { IfOk result (λ found. IfSome found (λ tool. name_of tool ≡ name.now)) }
+fn of_name(alloc: Global, name: &str, parts: &Parts<'_>) -> Result<Option<Tool>, AllocError>
+    ensures said { IfOk result
+        (λ o. IfSome o (IsOf name.now (given_of parts.now)
+        (flags_of parts.now) (plain_of parts.now))) }
+    ensures only { IfOk result (IsMadeOf name.now (given_of parts.now)
+        (flags_of parts.now) (plain_of parts.now)) }
 {
     match name {
-        "init" => init_of(alloc, found),
-        "explain" => explain_of(alloc, found),
-        "show" => show_of(alloc, found),
-        "refusal" => refusal_of(alloc, found),
+        "init" => init_of(alloc, parts),
+        "explain" => explain_of(alloc, parts),
+        "show" => show_of(alloc, parts),
+        "refusal" => refusal_of(alloc, parts),
         _ => Ok(None),
     }
 }
 
-fn init_of(alloc: Global, found: &ArgMatches<'_>) -> Result<Option<Tool>, AllocError>
-    ensures { IfOk result (λ found. IfSome found (λ tool. name_of tool ≡ codes "init")) }
+fn init_of(alloc: Global, parts: &Parts<'_>) -> Result<Option<Tool>, AllocError>
+    ensures said { IfOk result
+        (λ o. IfSome o (IsOf (codes "init") (given_of parts.now)
+        (flags_of parts.now) (plain_of parts.now))) }
+    ensures only { IfOk result (IsMadeOf (codes "init") (given_of parts.now)
+        (flags_of parts.now) (plain_of parts.now)) }
 {
-    let Some(folder) = found.get_str("DIR") else {
+    if !parts.has_only(&["fact"]) {
+        return Ok(None);
+    }
+    if !parts.has_no_flag() {
+        return Ok(None);
+    }
+    let Some(folder) = parts.only_word() else {
         return Ok(None);
     };
-    let fact = text_if_any(alloc, found.get_str("fact"))?;
+    let Some(fact) = parts.text_if_any("fact") else {
+        return Ok(None);
+    };
+    let fact = text_if_any(alloc, fact)?;
     let folder = Text::new(alloc, folder)?;
     Ok(Some(Tool::Init(InitWords { folder, fact })))
 }
 
-fn explain_of(alloc: Global, found: &ArgMatches<'_>) -> Result<Option<Tool>, AllocError>
-    ensures { IfOk result (λ found. IfSome found (λ tool. name_of tool ≡ codes "explain")) }
+fn explain_of(alloc: Global, parts: &Parts<'_>) -> Result<Option<Tool>, AllocError>
+    ensures said { IfOk result
+        (λ o. IfSome o (IsOf (codes "explain") (given_of parts.now)
+        (flags_of parts.now) (plain_of parts.now))) }
+    ensures only { IfOk result (IsMadeOf (codes "explain") (given_of parts.now)
+        (flags_of parts.now) (plain_of parts.now)) }
 {
-    let (Some(folder), Some(query)) = (found.get_str("DIR"), found.get_str("query")) else {
+    if !parts.has_only(&["query"]) {
+        return Ok(None);
+    }
+    if !parts.has_no_flag() {
+        return Ok(None);
+    }
+    let Some(folder) = parts.only_word() else {
+        return Ok(None);
+    };
+    let Some(query) = parts.text("query") else {
         return Ok(None);
     };
     let folder = Text::new(alloc, folder)?;
@@ -158,31 +161,45 @@ fn explain_of(alloc: Global, found: &ArgMatches<'_>) -> Result<Option<Tool>, All
     Ok(Some(Tool::Explain(ExplainWords { folder, query })))
 }
 
-fn show_of(alloc: Global, found: &ArgMatches<'_>) -> Result<Option<Tool>, AllocError>
-    ensures { IfOk result (λ found. IfSome found (λ tool. name_of tool ≡ codes "show")) }
+fn show_of(alloc: Global, parts: &Parts<'_>) -> Result<Option<Tool>, AllocError>
+    ensures said { IfOk result
+        (λ o. IfSome o (IsOf (codes "show") (given_of parts.now)
+        (flags_of parts.now) (plain_of parts.now))) }
+    ensures only { IfOk result (IsMadeOf (codes "show") (given_of parts.now)
+        (flags_of parts.now) (plain_of parts.now)) }
 {
-    let Some(path) = found.get_str("FILE") else {
+    if !parts.has_only(&["rows"]) {
+        return Ok(None);
+    }
+    let Some(path) = parts.only_word() else {
         return Ok(None);
     };
-    let rows = found.get_one::<u32>("rows");
-    let groups = found.get_flag("groups");
+    let Some(rows) = parts.number_if_any("rows") else {
+        return Ok(None);
+    };
+    let Some(groups) = parts.only_flag("groups") else {
+        return Ok(None);
+    };
     let path = Text::new(alloc, path)?;
     Ok(Some(Tool::Show(ShowWords { path, rows, groups })))
 }
 
-fn text_if_any(alloc: Global, text: Option<&str>) -> Result<Option<Text>, AllocError> {
-    match text {
-        Some(text) => Ok(Some(Text::new(alloc, text)?)),
-        None => Ok(None),
-    }
-}
-
-fn refusal_of(alloc: Global, found: &ArgMatches<'_>) -> Result<Option<Tool>, AllocError>
-    ensures { IfOk result (λ found. IfSome found (λ tool. name_of tool ≡ codes "refusal")) }
+fn refusal_of(alloc: Global, parts: &Parts<'_>) -> Result<Option<Tool>, AllocError>
+    ensures said { IfOk result
+        (λ o. IfSome o (IsOf (codes "refusal") (given_of parts.now)
+        (flags_of parts.now) (plain_of parts.now))) }
+    ensures only { IfOk result (IsMadeOf (codes "refusal") (given_of parts.now)
+        (flags_of parts.now) (plain_of parts.now)) }
 {
-    let mut words = Sequence::new(alloc);
-    for word in found.get_strs("WORDS").unwrap_or(&[]) {
-        words.push(Text::new(alloc, word)?)?;
+    if !parts.has_only(&[]) {
+        return Ok(None);
     }
-    Ok(Some(Tool::Refusal(words)))
+    if !parts.has_no_flag() {
+        return Ok(None);
+    }
+    let words = parts.plain_words();
+    if words.is_empty() {
+        return Ok(None);
+    }
+    Ok(Some(Tool::Refusal(texts(alloc, words)?)))
 }

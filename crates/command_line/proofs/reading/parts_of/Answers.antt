@@ -1,6 +1,6 @@
 use Rattle.std.proofs.Common.{inl, inr}
 use Rattle.command_line.proofs.Steps.{none_read, one_read, all_read, all_these, all_but_value, none_further}
-use Rattle.command_line.proofs.reading.read.Goals as goal
+use Rattle.command_line.proofs.reading.parts_of.Goals as goal
 
 pub loop-word-init : goal.loop-word-init
 loop-word-init c = none_read _ _ c.new-parts.ensures.0 c.new-parts.ensures.1 c.new-parts.ensures.2

@@ -18,6 +18,18 @@ has_code Work number = is_from_to 1 5 number
 has_code Journal number = is_from_to 12 16 number
 has_code Gather number = is_from_to 1 10 number
 
+-- the word in front of its error codes
+abbrev pub word_of : Layer → List ℕ
+word_of Catalog = codes "catalog"
+word_of Cut = codes "cut"
+word_of Sql = codes "sql"
+word_of Plan = codes "plan"
+word_of Load = codes "load"
+word_of File = codes "file"
+word_of Work = codes "work"
+word_of Journal = codes "journal"
+word_of Gather = codes "gather"
+
 -- the layer that has the word
 abbrev pub layer_of : List ℕ → Option Layer
 layer_of word =

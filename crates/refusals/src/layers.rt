@@ -1,6 +1,6 @@
 //! The parts of the program that refuse something by an error code.
-ghost use Rattle.std.specs.Prelude.{◌≡◌};
-ghost use Rattle.refusals.specs.Codes.{has_code, layer_of};
+ghost use Rattle.std.specs.Prelude.{◌≡◌, IfSome};
+ghost use Rattle.refusals.specs.Codes.{layer_of, word_of};
 
 /// A part of the program that refuses something by an error code.
 #[derive(Clone, Copy, Debug, Drop, PartialEq, Eq)]
@@ -33,7 +33,8 @@ impl Layer {
 
     /// The layer of the word that stands in front of the error code.
     pub fn of_word(word: &str) -> Option<Layer>
-        ensures { result ≡ layer_of word.now }
+        ensures layer { result ≡ layer_of word.now }
+        ensures word { IfSome result (λ layer. word.now ≡ word_of layer) }
     {
         match word {
             "catalog" => Some(Layer::Catalog),
@@ -61,23 +62,6 @@ impl Layer {
             Layer::Work => "work 1 to 5",
             Layer::Journal => "journal 12 to 16",
             Layer::Gather => "gather 1 to 10",
-        }
-    }
-
-    /// Whether the layer refuses anything by this error code.
-    pub fn has_code(self, number: u8) -> bool
-        ensures { result ≡ has_code self number }
-    {
-        match self {
-            Layer::Catalog => 1 <= number && number <= 6,
-            Layer::Cut => 1 <= number && number <= 3,
-            Layer::Sql => 1 <= number && number <= 8,
-            Layer::Plan => 1 <= number && number <= 13,
-            Layer::Load => 1 <= number && number <= 9,
-            Layer::File => (1 <= number && number <= 4) || number == 7,
-            Layer::Work => 1 <= number && number <= 5,
-            Layer::Journal => 12 <= number && number <= 16,
-            Layer::Gather => 1 <= number && number <= 10,
         }
     }
 }

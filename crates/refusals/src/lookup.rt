@@ -1,6 +1,7 @@
 //! The entry of a refusal.
-ghost use Rattle.std.specs.Prelude.{◌≡◌, is_some};
-ghost use Rattle.refusals.specs.Codes.{has_code, is_known};
+ghost use Rattle.std.specs.Prelude.{◌≡◌, IfSome, is_some};
+ghost use Rattle.refusals.specs.Codes.{has_code, is_known, word_of};
+ghost use Rattle.refusals.specs.Lines.{IsOfCode};
 
 use crate::entries::Entry;
 use crate::layers::Layer;
@@ -10,7 +11,11 @@ use crate::table::{
 use std::io;
 use std::io::Write;
 
-fn of_layer(layer: Layer, number: u8) -> Entry {
+/// The entry of an error code of a layer.
+pub fn entry_of(layer: Layer, number: u8) -> Option<Entry>
+    ensures known { is_some result ≡ has_code layer number }
+    ensures line { IfSome result (IsOfCode (word_of layer) number) }
+{
     match layer {
         Layer::Catalog => of_catalog(number),
         Layer::Cut => of_cut(number),
@@ -24,19 +29,10 @@ fn of_layer(layer: Layer, number: u8) -> Entry {
     }
 }
 
-/// The entry of an error code of a layer.
-pub fn entry_of(layer: Layer, number: u8) -> Option<Entry>
-    ensures { is_some result ≡ has_code layer number }
-{
-    if !layer.has_code(number) {
-        return None;
-    }
-    Some(of_layer(layer, number))
-}
-
 /// The entry of the line of this word and this error code, as `sql` and 5.
 pub fn entry(word: &str, number: u8) -> Option<Entry>
-    ensures { is_some result ≡ is_known word.now number }
+    ensures known { is_some result ≡ is_known word.now number }
+    ensures line { IfSome result (IsOfCode word.now number) }
 {
     match Layer::of_word(word) {
         Some(layer) => entry_of(layer, number),

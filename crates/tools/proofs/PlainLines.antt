@@ -1,31 +1,54 @@
 -- The words gone through so far, and the line that they are.
-use Rattle.std.proofs.Common.{◌≡◌, ℕ, ◌+◌, ◌<◌, List, [], ◌∷◌, ◌++◌, length, take, get_or, refl, sym, ap, subst, true, ◌∙◌}
+use Rattle.std.proofs.Common.{◌≡◌, ℕ, ◌+◌, ◌<◌, ◌≤◌, ⊎_elim, arith, List, [], ◌∷◌, ◌++◌, length, take, get_or, refl, sym, ap, subst, ◌∙◌}
+use Rattle.std.proofs.lemmas.Bool.{cases_lt}
 use Rattle.std.proofs.lemmas.List.{take_more}
-use Rattle.std.specs.Prelude.{Option, None, Some, OnSome, is_some}
+use Rattle.std.specs.Prelude.{Option, None, Some, IfSome, false, is_some}
 use Rattle.std.specs.Option.{option_or}
 use Rattle.refusals.specs.declared.entries.Entry.{Entry}
+use Rattle.refusals.specs.Lines.{IsOf}
 use Rattle.refusals.specs.Texts.{is_plain}
-use Rattle.tools.specs.Explained.{BeginsPlain, with_word, with_words}
+use Rattle.tools.specs.Explained.{BeginsPlain, BeginsPlainWithin, IsLongest, line_of, with_word, with_words}
 
 pub record IsSoFar (words : List (List ℕ)) (count : ℕ) (line : List ℕ) (found : Option Entry) : Type 0 where
-  pub line_is : line ≡ with_words [] (take count words)
-  pub known : OnSome found (BeginsPlain words)
+  pub line_is : line ≡ line_of words count
+  pub known : IfSome found (BeginsPlainWithin words count)
 
 one_more : (line : List ℕ) (words : List (List ℕ)) (word : List ℕ) → with_words line (words ++ word ∷ []) ≡ with_word (with_words line words) word
 one_more line [] word = refl
 one_more line (first ∷ words) word = one_more (with_word line first) words word
 
-either : (words : List (List ℕ)) (here found : Option Entry) → (is_some here ≡ true → BeginsPlain words) → OnSome found (BeginsPlain words) → OnSome (option_or here found) (BeginsPlain words)
-either words None found known before = before
-either words (Some entry) found known before = known refl
+-- one word more makes no such line
+no_longer : (words : List (List ℕ)) (count most : ℕ) → is_plain (line_of words (most + 1)) ≡ false → IsLongest words count most → IsLongest words count (most + 1)
+no_longer words count most plain longest = λ more over within. ⊎_elim
+    (λ less. longest more over (omega (arith, less)))
+    (λ last. let same : most + 1 ≡ more = omega (arith, within, last) in subst (λ n. is_plain (line_of words n) ≡ false) same plain)
+    (cases_lt more (most + 1))
 
-pub next_word : (words : List (List ℕ)) (count : ℕ) (word line after : List ℕ) (here found : Option Entry) → count < length words → word ≡ get_or words count word → IsSoFar words count line found → after ≡ with_word line word → is_some here ≡ is_plain after
-    → IsSoFar words (count + 1) after (option_or here found)
-next_word words count word line after here found below is before more plain =
-    let all : after ≡ with_words [] (take (count + 1) words) =
+still : (words : List (List ℕ)) (most : ℕ) (found : Option Entry) → is_plain (line_of words (most + 1)) ≡ false → IfSome found (BeginsPlainWithin words most) → IfSome found (BeginsPlainWithin words (most + 1))
+still words most None plain before = before
+still words most (Some entry) plain (count, is, of, longest) = (count, is, of, no_longer words count most plain longest)
+
+-- the line of all words so far is the longest
+either : (words : List (List ℕ)) (count : ℕ) (here found : Option Entry) → is_some here ≡ is_plain (line_of words (count + 1)) → IfSome here (IsOf (line_of words (count + 1))) → IfSome found (BeginsPlainWithin words count)
+    → IfSome (option_or here found) (BeginsPlainWithin words (count + 1))
+either words count None found plain of before = still words count found (sym plain) before
+either words count (Some entry) found plain of before = (count + 1, sym plain, of, λ more over within. absurd (omega (arith, over, within)))
+
+pub next_word : (words : List (List ℕ)) (count : ℕ) (word line after : List ℕ) (here found : Option Entry) → count < length words → word ≡ get_or words count word → IsSoFar words count line found → after ≡ with_word line word
+    → is_some here ≡ is_plain after → IfSome here (IsOf after) → IsSoFar words (count + 1) after (option_or here found)
+next_word words count word line after here found below is before more plain of =
+    let all : after ≡ line_of words (count + 1) =
     more ∙ ap (λ (l : List ℕ). with_word l word) before.line_is ∙ sym (one_more [] (take count words) word)
     ∙ ap (λ (w : List ℕ). with_words [] (take count words ++ w ∷ [])) is ∙ ap (with_words []) (sym (take_more words count word below)) in
     record {
       line_is = all;
-      known = either words here found (λ some. (count + 1, ap is_plain (sym all) ∙ sym plain ∙ some)) before.known;
+      known = either words count here found (plain ∙ ap is_plain all) (subst (λ l. IfSome here (IsOf l)) all of) before.known;
     }
+
+shorter : (words : List (List ℕ)) (most : ℕ) (entry : Entry) → length words ≤ most → BeginsPlainWithin words most entry → BeginsPlain words entry
+shorter words most entry all (count, is, of, longest) = (count, is, of, λ more over within. longest more over (omega (arith, all, within)))
+
+-- all words were gone through
+pub all_words : (words : List (List ℕ)) (count : ℕ) (line : List ℕ) (found : Option Entry) → length words ≤ count → IsSoFar words count line found → IfSome found (BeginsPlain words)
+all_words words count line None all so = so.known
+all_words words count line (Some entry) all so = shorter words count entry all so.known

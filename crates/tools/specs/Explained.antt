@@ -1,9 +1,10 @@
--- Which words are explained: those with which the line of a known refusal begins.
-use Rattle.std.specs.Prelude.{◌≡◌, ◌⊎◌, ℕ, ◌==◌, true, if◌then◌else◌, List, [], ◌∷◌, ◌++◌, Option, codes, length, take, bytes_eq}
+-- Which words are explained, and by which entry: those with which the line of a known refusal begins.
+use Rattle.std.specs.Prelude.{◌≡◌, ◌⊎◌, ◌<◌, ◌≤◌, ℕ, ◌==◌, false, true, if◌then◌else◌, List, [], ◌∷◌, ◌++◌, Option, codes, length, take, bytes_eq}
 use Rattle.std.specs.Io.KnownBytes.{Appends}
 use Rattle.std.specs.Str.Parse.{IsNumeral, digits_value, without_leading_plus}
 use Rattle.refusals.specs.declared.entries.Entry.{Entry}
 use Rattle.refusals.specs.Codes.{is_known}
+use Rattle.refusals.specs.Lines.{IsOf, IsOfCode}
 use Rattle.refusals.specs.Texts.{entry_text, is_plain}
 
 -- the words behind the program's name, where the whole line is given
@@ -11,13 +12,14 @@ abbrev pub behind_name : List (List ℕ) → List (List ℕ)
 behind_name [] = []
 behind_name (word ∷ words) = if bytes_eq word (codes "xcols:") then words else word ∷ words
 
--- a word and an error code of its layer
-abbrev pub IsCode : List ℕ → List ℕ → Type 0
-IsCode word number = IsNumeral 10 (without_leading_plus number) × (is_known word (digits_value 10 (without_leading_plus number)) ≡ true)
+-- the number that the digits say is an error code of the word's layer, and the entry is of their line
+abbrev pub IsCode : List ℕ → List ℕ → Entry → Type 0
+IsCode word digits entry = IsNumeral 10 digits × (is_known word (digits_value 10 digits) ≡ true) × IsOfCode word (digits_value 10 digits) entry
 
-abbrev pub BeginsWithCode : List (List ℕ) → Type 0
-BeginsWithCode (word ∷ number ∷ words) = IsCode word number
-BeginsWithCode _ = ⊥
+-- a word and an error code of its layer
+abbrev pub BeginsWithCode : List (List ℕ) → Entry → Type 0
+BeginsWithCode (word ∷ number ∷ words) entry = IsCode word (without_leading_plus number) entry
+BeginsWithCode _ entry = ⊥
 
 -- a line with one word more
 abbrev pub with_word : List ℕ → List ℕ → List ℕ
@@ -27,14 +29,25 @@ abbrev pub with_words : List ℕ → List (List ℕ) → List ℕ
 with_words line [] = line
 with_words line (word ∷ words) = with_words (with_word line word) words
 
--- some of these words, from the first on, are a line without an error code
-abbrev pub BeginsPlain : List (List ℕ) → Type 0
-BeginsPlain words = (count : ℕ) × (is_plain (with_words [] (take count words)) ≡ true)
+-- the line of the first of these words
+abbrev pub line_of : List (List ℕ) → ℕ → List ℕ
+line_of words count = with_words [] (take count words)
 
-abbrev pub IsExplained : List (List ℕ) → Type 0
-IsExplained words = BeginsWithCode (behind_name words) ⊎ BeginsPlain (behind_name words)
+-- a line of more of these words, up to so many, isn't one without an error code
+abbrev pub IsLongest : List (List ℕ) → ℕ → ℕ → Type 0
+IsLongest words count most = (more : ℕ) → count < more → more ≤ most → is_plain (line_of words more) ≡ false
 
--- nothing is printed of words that aren't explained, and with the status 0 an entry is printed
+-- the longest line without an error code that the first of these words are, as far as there are so many, and the entry is of it
+abbrev pub BeginsPlainWithin : List (List ℕ) → ℕ → Entry → Type 0
+BeginsPlainWithin words most entry = (count : ℕ) × (is_plain (line_of words count) ≡ true) × IsOf (line_of words count) entry × IsLongest words count most
+
+abbrev pub BeginsPlain : List (List ℕ) → Entry → Type 0
+BeginsPlain words entry = BeginsPlainWithin words (length words) entry
+
+abbrev pub IsExplained : List (List ℕ) → Entry → Type 0
+IsExplained words entry = BeginsWithCode (behind_name words) entry ⊎ BeginsPlain (behind_name words) entry
+
+-- nothing is printed of words that no entry explains, and with the status 0 an entry is printed that does
 abbrev pub PrintsEntry : List (List ℕ) → ℕ → Option (List ℕ) → Option (List ℕ) → Type 0
-PrintsEntry words status before after = ((after ≡ before) ⊎ IsExplained words)
-    × (status ≡ 0 → IsExplained words × ((entry : Entry) × Appends before after (entry_text entry ++ codes "\n")))
+PrintsEntry words status before after = ((after ≡ before) ⊎ ((entry : Entry) × IsExplained words entry))
+    × (status ≡ 0 → (entry : Entry) × IsExplained words entry × Appends before after (entry_text entry ++ codes "\n"))

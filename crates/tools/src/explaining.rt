@@ -1,5 +1,5 @@
 //! What is known of a refusal, by the words of its line.
-ghost use Rattle.std.specs.Prelude.{◌≡◌, IfOk, OnOk, OnSome, string_bytes};
+ghost use Rattle.std.specs.Prelude.{◌≡◌, IfOk, IfSome, OnOk, string_bytes};
 ghost use Rattle.tools.specs.Explained.{BeginsPlain, BeginsWithCode, IsExplained, behind_name, with_word};
 
 use meaning::Text;
@@ -18,7 +18,7 @@ fn behind_name(words: &[Text]) -> &[Text]
 
 // Of a word and an error code behind it.
 fn numbered(words: &[Text]) -> Option<Entry>
-    ensures { OnSome result (BeginsWithCode words.now) }
+    ensures { IfSome result (BeginsWithCode words.now) }
 {
     let (word, others) = words.split_first()?;
     let (number, _) = others.split_first()?;
@@ -38,7 +38,7 @@ fn add_word(line: &mut String, word: &str) -> Result<(), AllocError>
 
 // Of as many words as such a line has, whatever stands behind.
 fn plain(alloc: Global, words: &[Text]) -> Result<Option<Entry>, AllocError>
-    ensures { IfOk result (λ found. OnSome found (BeginsPlain words.now)) }
+    ensures { IfOk result (λ found. IfSome found (BeginsPlain words.now)) }
 {
     let mut found = None;
     let mut line = String::new(alloc);
@@ -51,7 +51,7 @@ fn plain(alloc: Global, words: &[Text]) -> Result<Option<Entry>, AllocError>
 
 /// The entry of the refusal whose line begins with these words, behind `xcols:` or not.
 pub fn entry_of(alloc: Global, words: &[Text]) -> Result<Option<Entry>, AllocError>
-    ensures { IfOk result (λ found. OnSome found (IsExplained words.now)) }
+    ensures { IfOk result (λ found. IfSome found (IsExplained words.now)) }
 {
     let words = behind_name(words);
     match numbered(words) {

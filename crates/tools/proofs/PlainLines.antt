@@ -1,17 +1,22 @@
 -- The words gone through so far, and the line that they are.
 use Rattle.std.proofs.Common.{◌≡◌, ℕ, ◌+◌, ◌<◌, ◌≤◌, ⊎_elim, arith, List, [], ◌∷◌, ◌++◌, length, take, get_or, refl, sym, ap, subst, ◌∙◌}
-use Rattle.std.proofs.lemmas.Bool.{cases_lt}
-use Rattle.std.proofs.lemmas.List.{take_more}
-use Rattle.std.specs.Prelude.{Option, None, Some, IfSome, false, is_some}
+use Rattle.std.proofs.lemmas.Bool.{cases_lt, false≢true}
+use Rattle.std.proofs.lemmas.List.{take_all, take_more}
+use Rattle.std.specs.Prelude.{Option, None, Some, Result, Ok, Err, IfOk, IfSome, false, is_some}
 use Rattle.std.specs.Option.{option_or}
 use Rattle.refusals.specs.declared.entries.Entry.{Entry}
 use Rattle.refusals.specs.Lines.{IsOf}
 use Rattle.refusals.specs.Texts.{is_plain}
-use Rattle.tools.specs.Explained.{BeginsPlain, BeginsPlainWithin, IsLongest, line_of, with_word, with_words}
+use Rattle.tools.specs.Explained.{AreUnexplained, BeginsPlain, BeginsPlainWithin, BeginsWithCode, IsLongest, behind_name, line_of, with_word, with_words}
+
+-- no line of the first words, up to so many of them, is one without an error code
+abbrev pub AreNoLines : List (List ℕ) → ℕ → Type 0
+AreNoLines words most = (count : ℕ) → count ≤ most → is_plain (line_of words count) ≡ false
 
 pub record IsSoFar (words : List (List ℕ)) (count : ℕ) (line : List ℕ) (found : Option Entry) : Type 0 where
   pub line_is : line ≡ line_of words count
   pub known : IfSome found (BeginsPlainWithin words count)
+  pub none : is_some found ≡ false → AreNoLines words count
 
 one_more : (line : List ℕ) (words : List (List ℕ)) (word : List ℕ) → with_words line (words ++ word ∷ []) ≡ with_word (with_words line words) word
 one_more line [] word = refl
@@ -34,6 +39,17 @@ either : (words : List (List ℕ)) (count : ℕ) (here found : Option Entry) →
 either words count None found plain of before = still words count found (sym plain) before
 either words count (Some entry) found plain of before = (count + 1, sym plain, of, λ more over within. absurd (omega (arith, over, within)))
 
+-- neither this line nor one before it
+none_more : (words : List (List ℕ)) (count : ℕ) (here found : Option Entry) → is_some here ≡ is_plain (line_of words (count + 1)) → (is_some found ≡ false → AreNoLines words count) → is_some (option_or here found) ≡ false → AreNoLines words (count + 1)
+none_more words count None found plain before none = λ n within. ⊎_elim
+    (λ less. before none n (omega (arith, less)))
+    (λ last. let same : count + 1 ≡ n = omega (arith, within, last) in subst (λ k. is_plain (line_of words k) ≡ false) same (sym plain))
+    (cases_lt n (count + 1))
+none_more words count (Some entry) found plain before none = absurd (false≢true (sym none))
+
+pub no_word : (words : List (List ℕ)) → AreNoLines words 0
+no_word words = λ n within. let same : 0 ≡ n = omega (arith, within) in subst (λ k. is_plain (line_of words k) ≡ false) same refl
+
 pub next_word : (words : List (List ℕ)) (count : ℕ) (word line after : List ℕ) (here found : Option Entry) → count < length words → word ≡ get_or words count word → IsSoFar words count line found → after ≡ with_word line word
     → is_some here ≡ is_plain after → IfSome here (IsOf after) → IsSoFar words (count + 1) after (option_or here found)
 next_word words count word line after here found below is before more plain of =
@@ -43,6 +59,7 @@ next_word words count word line after here found below is before more plain of =
     record {
       line_is = all;
       known = either words count here found (plain ∙ ap is_plain all) (subst (λ l. IfSome here (IsOf l)) all of) before.known;
+      none = none_more words count here found (plain ∙ ap is_plain all) before.none;
     }
 
 shorter : (words : List (List ℕ)) (most : ℕ) (entry : Entry) → length words ≤ most → BeginsPlainWithin words most entry → BeginsPlain words entry
@@ -52,3 +69,23 @@ shorter words most entry all (count, is, of, longest) = (count, is, of, λ more 
 pub all_words : (words : List (List ℕ)) (count : ℕ) (line : List ℕ) (found : Option Entry) → length words ≤ count → IsSoFar words count line found → IfSome found (BeginsPlain words)
 all_words words count line None all so = so.known
 all_words words count line (Some entry) all so = shorter words count entry all so.known
+
+-- beyond the last word the line stays as it is
+none_beyond : (words : List (List ℕ)) (most count : ℕ) → length words ≤ most → AreNoLines words most → is_plain (line_of words count) ≡ false
+none_beyond words most count all none = ⊎_elim
+    (λ less. none count (omega (arith, less)))
+    (λ over.
+    let same : line_of words most ≡ line_of words count = ap (with_words []) (take_all most words all ∙ sym (take_all count words (omega (arith, all, over)))) in
+    sym (ap is_plain same) ∙ none most (omega arith))
+    (cases_lt count most)
+
+pub no_line : (words : List (List ℕ)) (count : ℕ) (line : List ℕ) (found : Option Entry) → length words ≤ count → IsSoFar words count line found → found ≡ None → (entry : Entry) → BeginsPlain words entry → ⊥
+no_line words count line found all so none entry (n, is, of, longest) = false≢true (sym (none_beyond words count n all (so.none (ap is_some none))) ∙ is)
+
+pub unexplained : {E : Type 0} (words behind : List (List ℕ)) (result : Result (Option Entry) E) → behind ≡ behind_name words → ((entry : Entry) → BeginsWithCode behind entry → ⊥)
+    → IfOk result (λ found. found ≡ None → (entry : Entry) → BeginsPlain behind entry → ⊥) → IfOk result (λ found. found ≡ None → AreUnexplained words)
+unexplained words behind (Err e) same no_code no_plain = no_plain
+unexplained words behind (Ok found) same no_code no_plain = λ none entry explained. ⊎_elim
+    (λ code. no_code entry (subst (λ ws. BeginsWithCode ws entry) (sym same) code))
+    (λ plain. no_plain none entry (subst (λ ws. BeginsPlain ws entry) (sym same) plain))
+    explained

@@ -47,6 +47,10 @@ BeginsPlain words entry = BeginsPlainWithin words (length words) entry
 abbrev pub IsExplained : List (List ℕ) → Entry → Type 0
 IsExplained words entry = BeginsWithCode (behind_name words) entry ⊎ BeginsPlain (behind_name words) entry
 
+-- no entry explains the words
+abbrev pub AreUnexplained : List (List ℕ) → Type 0
+AreUnexplained words = (entry : Entry) → IsExplained words entry → ⊥
+
 -- nothing is printed of words that no entry explains, and with the status 0 an entry is printed that does
 abbrev pub PrintsEntry : List (List ℕ) → ℕ → Option (List ℕ) → Option (List ℕ) → Type 0
 PrintsEntry words status before after = ((after ≡ before) ⊎ ((entry : Entry) × IsExplained words entry))

@@ -1,18 +1,29 @@
 //! Shares, and numbers in ranges.
 ghost use Rattle.std.specs.Prelude.{◌≡◌, ◌++◌, ◌+◌, ◌∷◌, ◌==◌, [], ℕ, IfOk, List, OnOk, Some, codes, decimal, flat_map, string_bytes};
 ghost use Rattle.answer_text.specs.Ranges.{pending, range_text, ranges, ranges_line};
+ghost use Rattle.answer_text.specs.Shares.{share_text, thousandths_text};
 
 use std::alloc::AllocError;
 
+fn put_thousandths(out: &mut String, number: u64) -> Result<(), AllocError>
+    ensures { OnOk result (string_bytes out.new ≡ string_bytes out.old
+        ++ thousandths_text number) }
+{
+    let whole = number / 1000;
+    let tenth = number / 100 % 10;
+    let hundredth = number / 10 % 10;
+    let thousandth = number % 10;
+    write!(out, ", {whole}.{tenth}{hundredth}{thousandth} a row")
+}
+
 /// Writes how many bytes a row takes, with three digits behind the point.
-pub fn put_share(out: &mut String, bytes: u64, rows: u32) -> Result<(), AllocError> {
+pub fn put_share(out: &mut String, bytes: u64, rows: u32) -> Result<(), AllocError>
+    ensures { OnOk result (string_bytes out.new ≡ string_bytes out.old ++ share_text bytes rows) }
+{
     if rows == 0 {
         return Ok(());
     }
-    let thousandths = bytes.saturating_mul(1000) / u64::from(rows);
-    let whole = thousandths / 1000;
-    let part = thousandths % 1000;
-    write!(out, ", {whole}.{part:03} a row")
+    put_thousandths(out, bytes.saturating_mul(1000) / u64::from(rows))
 }
 
 /// Writes a range by its first and its last number.

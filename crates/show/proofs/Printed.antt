@@ -4,8 +4,12 @@ use Rattle.std.specs.Prelude.{Err, IfOk, IfSome, IsOk, None, Ok, OnOk, Option, R
 use Rattle.std.specs.Io.KnownBytes.{Appends}
 use Rattle.show.specs.declared.file_kind.FileKind.{FileKind}
 use Rattle.show.specs.declared.file_kind.FileKind.TheVariants as kind
+use Rattle.fragment_file.specs.CutFile.{CutFileSpec, IsCutFileOf}
+use Rattle.fragment_file.specs.Fragment.{FragmentSpec, IsFileOf}
+use Rattle.show.specs.CutText.{cut_at, cut_text}
 use Rattle.show.specs.Rows.{AreRecords}
 use Rattle.show.specs.Shown.{IsKnownOf, IsPrinted, IsRead, IsText, PrintsRead, detail_of, front_of, kind_of}
+use Rattle.show.specs.TableText.{TableLayout, fragment_of, table_at, table_text}
 use Rattle.show.specs.declared.showing.ShowOptions.{ShowOptions}
 use Rattle.answer_fields.specs.declared.format.Format.{Format}
 use Rattle.answer_fields.specs.declared.fault.DecodeFault.{DecodeFault}
@@ -17,7 +21,9 @@ use Rattle.wire.proofs.Numbers.{IsBytes}
 use Rattle.wire.specs.Reading.{Read}
 use Rattle.answer_text.proofs.Spelled.{answer_spelled}
 use Rattle.show.proofs.Begins.{begins_as_answer, begins_as_state}
+use Rattle.show.proofs.CutRead.{one_cut_read}
 use Rattle.show.proofs.StateSpelled.{state_spelled}
+use Rattle.show.proofs.TableRead.{one_table_read}
 
 pub ended_so : {E : Type 0} {P : Type 0} (r : Result (Unit {0}) E) → IsOk r → OnOk r P → P
 ended_so (Ok done) ok said = said
@@ -28,9 +34,6 @@ if_whole (Ok whole) more said = λ is. more (said is)
 if_whole (Err e) more said = tt
 
 module _ (bytes : List ℕ) (known : Option ℕ) (front text : List ℕ) (before after : Option (List ℕ)) (appends : Appends before after (front ++ text)) where
-  behind : (kind : FileKind) → front ≡ front_of kind (length bytes) → (rest : List ℕ) × Appends before after (front_of kind (length bytes) ++ rest)
-  behind kind is = (text, subst (λ f. Appends before after (f ++ text)) is appends)
-
   rows_known : (rows n : ℕ) → known ≡ Some n → IfSome known (λ m. rows ≡ m) → rows ≡ n
   rows_known rows n is said = let here : IfSome (Some n) (λ m. rows ≡ m) = subst (λ k. IfSome k (λ m. rows ≡ m)) is said in here
 
@@ -50,15 +53,24 @@ module _ (bytes : List ℕ) (known : Option ℕ) (front text : List ℕ) (before
   read_so : {Y : Type 0} (read : List ℕ → List ℕ → Read DecodeFault Y) (text_of : Y → List ℕ) → front ≡ [] → IsRead read text_of bytes text → PrintsRead read text_of bytes before after
   read_so read text_of none (y, rest, there, is) = (y, rest, there, subst (λ t. Appends before after t) (ap (λ f. f ++ text) none ∙ is) appends)
 
+  of_cut : front ≡ front_of kind.Cut (length bytes) → IsRead cut_at cut_text bytes text → ((f : CutFileSpec) × IsCutFileOf bytes f) → (f : CutFileSpec) × IsCutFileOf bytes f × Appends before after (front_of kind.Cut (length bytes) ++ cut_text f)
+  of_cut is (read, rest, there, more) (f, file) =
+      let same : text ≡ cut_text f = more ∙ ap cut_text (one_cut_read bytes f read rest file there) in
+      (f, file, subst (λ t. Appends before after t) (λ i. is i ++ same i) appends)
+
+  of_table : front ≡ front_of kind.Table (length bytes) → IsRead table_at (table_text 0 (length bytes)) bytes text → (f : FragmentSpec) → IsFileOf bytes f
+      → (t : TableLayout) × (rest : List ℕ) × (table_at bytes (drop 4 bytes) ≡ Ok (t, rest)) × IsFileOf bytes (fragment_of t) × Appends before after (front_of kind.Table (length bytes) ++ table_text 0 (length bytes) t)
+  of_table is (t, rest, there, more) f file = (t, rest, there, one_table_read bytes f t rest file there, subst (λ x. Appends before after x) (λ i. is i ++ more i) appends)
+
   pub printed : (kind : FileKind) (options : ShowOptions) (most : Option ℕ) → IsBytes bytes → kind_of bytes ≡ Some kind → IsText kind bytes options most known front text → IsKnownOf kind bytes known
       → IsPrinted kind bytes options most before after
-  printed kind.Table options None ok begins (is, parts) known_so = behind kind.Table is
+  printed kind.Table options None ok begins (is, parts) (n, known_is, (f, file, rows)) = of_table is parts f file
   printed kind.Table options (Some most) ok begins (none, (rows, said, records)) (n, known_is, has) = (
     n,
     has,
     (text, subst (λ m. AreRecords (1 + min most m) text) (rows_known rows n known_is said) records, subst (λ f. Appends before after (f ++ text)) none appends),
   )
-  printed kind.Cut options most ok begins (is, parts) known_so = behind kind.Cut is
+  printed kind.Cut options most ok begins (is, parts) known_so = of_cut is parts known_so
   printed (kind.Answer format) options most ok begins (is, parts) known_so = spelled_so format options ok is begins parts
   printed (kind.State format) options most ok begins (is, parts) known_so = state_so format options ok is begins parts
   printed kind.Journal options most ok begins (is, parts) known_so = read_so journal_at (journal_text (detail_of options) 0 (length bytes)) is parts

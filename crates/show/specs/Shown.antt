@@ -8,7 +8,9 @@ use Rattle.folders.specs.Folder.{AreHeld, Holds}
 use Rattle.answer_fields.specs.declared.format.Content.TheVariants as of
 use Rattle.answer_fields.specs.declared.format.Format.{Format}
 use Rattle.answer_fields.specs.Format.{format_in}
+use Rattle.show.specs.CutText.{cut_at, cut_text}
 use Rattle.show.specs.Rows.{AppendsRecords, AreRecords, HasRows}
+use Rattle.show.specs.TableText.{TableLayout, fragment_of, table_at, table_text}
 use Rattle.show.specs.declared.file_kind.FileKind.{FileKind}
 use Rattle.show.specs.declared.file_kind.FileKind.TheVariants as kind
 use Rattle.show.specs.declared.showing.ShowOptions.{ShowOptions}
@@ -62,9 +64,10 @@ front_of (kind.Answer f) size = []
 front_of (kind.State f) size = []
 front_of kind.Journal size = []
 
--- the number of a table's rows, where it is known
+-- the number of a table's rows, where it is known; of a cut, that the bytes are the file of one
 abbrev pub IsKnownOf : FileKind → List ℕ → Option ℕ → Type 0
 IsKnownOf kind.Table bytes known = (rows : ℕ) × (known ≡ Some rows) × HasRows bytes rows
+IsKnownOf kind.Cut bytes known = (f : CutFileSpec) × IsCutFileOf bytes f
 IsKnownOf _ bytes known = ⊤
 
 -- a count of an answer's groups, or each of them
@@ -75,12 +78,13 @@ detail_of options = if options.groups then of_detail.Groups else of_detail.Count
 abbrev pub IsRead : {Y : Type 0} → (List ℕ → List ℕ → Read DecodeFault Y) → (Y → List ℕ) → List ℕ → List ℕ → Type 0
 IsRead {Y} read text_of bytes text = (y : Y) × (rest : List ℕ) × (read bytes (drop 4 bytes) ≡ Ok (y, rest)) × (text ≡ text_of y)
 
--- the text of the parts of a file that is no table and no cut
+-- the text of the parts of a file
 abbrev pub ArePartsOf : FileKind → List ℕ → Detail → List ℕ → Type 0
+ArePartsOf kind.Table bytes detail text = IsRead table_at (table_text 0 (length bytes)) bytes text
+ArePartsOf kind.Cut bytes detail text = IsRead cut_at cut_text bytes text
 ArePartsOf (kind.Answer f) bytes detail text = IsRead (answer_at f) (answer_text detail (length bytes)) bytes text
 ArePartsOf (kind.State f) bytes detail text = IsRead (state_at f) (held_state_text detail (length bytes)) bytes text
 ArePartsOf kind.Journal bytes detail text = IsRead journal_at (journal_text detail 0 (length bytes)) bytes text
-ArePartsOf _ bytes detail text = ⊤
 
 -- where rows of a table's file are asked for, a header and the first rows are printed, as many as are asked for or all that
 -- there are; else what stands in a file, behind the line in front of it
@@ -92,15 +96,17 @@ IsText kind bytes options most known front text = (front ≡ front_of kind (leng
 abbrev pub PrintsRead : {Y : Type 0} → (List ℕ → List ℕ → Read DecodeFault Y) → (Y → List ℕ) → List ℕ → Option (List ℕ) → Option (List ℕ) → Type 0
 PrintsRead {Y} read text_of bytes before after = (y : Y) × (rest : List ℕ) × (read bytes (drop 4 bytes) ≡ Ok (y, rest)) × Appends before after (text_of y)
 
--- The same of what is printed of a file that has no fault. The bytes of an answer or a state are spelled by the fields that are
+-- The same of what is printed of a file that has no fault. A table or a cut that is printed is the one that the bytes are the
+-- file of, each row group at the byte where it was read. The bytes of an answer or a state are spelled by the fields that are
 -- printed; those of a journal are read as them.
 abbrev pub IsPrinted : FileKind → List ℕ → ShowOptions → Option ℕ → Option (List ℕ) → Option (List ℕ) → Type 0
 IsPrinted kind.Table bytes options (Some most) before after = (rows : ℕ) × HasRows bytes rows × AppendsRecords (1 + min most rows) before after
+IsPrinted kind.Table bytes options None before after = (t : TableLayout) × (rest : List ℕ) × (table_at bytes (drop 4 bytes) ≡ Ok (t, rest)) × IsFileOf bytes (fragment_of t) × Appends before after (front_of kind.Table (length bytes) ++ table_text 0 (length bytes) t)
+IsPrinted kind.Cut bytes options most before after = (f : CutFileSpec) × IsCutFileOf bytes f × Appends before after (front_of kind.Cut (length bytes) ++ cut_text f)
 IsPrinted (kind.Answer f) bytes options most before after = (l : Layout) × (l.format ≡ f) × (bytes ≡ sealed (layout_bytes l)) × Appends before after (answer_text (detail_of options) (length bytes) l)
 IsPrinted (kind.State f) bytes options most before after =
     (l : StateLayout) × (l.format ≡ f) × (bytes ≡ sealed (state_layout_bytes l)) × Appends before after (held_state_text (detail_of options) (length bytes) l)
 IsPrinted kind.Journal bytes options most before after = PrintsRead journal_at (journal_text (detail_of options) 0 (length bytes)) bytes before after
-IsPrinted kind bytes options most before after = (rest : List ℕ) × Appends before after (front_of kind (length bytes) ++ rest)
 
 -- so it is of bytes that begin as one of the files
 abbrev pub PrintsParts : List ℕ → ShowOptions → Option (List ℕ) → Option (List ℕ) → Type 0

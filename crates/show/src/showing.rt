@@ -394,8 +394,9 @@ pub fn show<F: Folder, O: Write, E: Write>(
     ensures silent { result ≡ 0 → E.contents err.new ≡ E.contents err.old }
     ensures quiet { (O.contents out.new ≡ O.contents out.old)
         ⊎ HoldsFile (F.holds folder.now) path.now }
-    // Of a table's file as many rows as are asked for are printed, or all; else it and a cut's are named
-    // in front of their parts. Of an answer its fields are printed, by which its bytes are spelled.
+    // Of a table's file as many rows as are asked for are printed, or all; else the text of the table, or
+    // of the cut, that the bytes are the file of. Of an answer its fields are printed, by which its bytes
+    // are spelled.
     ensures printed { result ≡ 0
         → PrintsPartsOf (F.holds folder.now) path.now options.now (O.contents out.old)
         (O.contents out.new) }

@@ -37,7 +37,7 @@ loop-group-preserved g c =
         next_sum done c.loop-group.wanted count c.min.result rest.result (min c.args.most c.args.rows) sum c.min.ensures rest.ensures,
         more_records done c.min.result _ _ _ written c.in_ok-write_rows.ensures.all,
       );
-      left = next_left c.args.rows c.loop-group.left c.loop-group.group count left.result c.loop-group.invariant.left c.in_ok-count.ensures left.ensures;
+      left = next_left c.args.rows c.loop-group.left c.loop-group.group count left.result c.loop-group.invariant.left c.in_ok-count.ensures.rows left.ensures;
       within = next_within c.loop-group.wanted c.loop-group.left count rest.result left.result c.loop-group.invariant.within rest.ensures left.ensures;
     }
 

@@ -19,9 +19,9 @@ use std::mem::drop;
 /// The most records that a journal has.
 const MOST_RECORDS: u32 = 1 << 20;
 
-/// A record: its number, where the bytes of its answer begin in the file, and how many they are.
+/// Which record it is, where the bytes of its answer begin in the file, and how many they are.
 #[derive(Clone, Copy, Drop)]
-struct Record {
+struct Place {
     number: u32,
     at: usize,
     size: usize,
@@ -30,7 +30,7 @@ struct Record {
 /// What stands before the shape of a record's answer.
 #[derive(Drop)]
 struct AnswerHead<'a> {
-    record: Record,
+    place: Place,
     format: Format,
     job: &'a JobFields<'a>,
     fragment: u32,
@@ -54,18 +54,13 @@ fn put_job(
     put_shape(out, shape)
 }
 
-fn put_numbered(
-    out: &mut String,
-    record: Record,
-    format: u8,
-    fragment: u32,
-) -> Result<(), AllocError>
+fn put_numbered(out: &mut String, place: Place, format: u8, fragment: u32) -> Result<(), AllocError>
     ensures { OnOk result (string_bytes out.new ≡ string_bytes out.old
-        ++ record_line record.number record.at record.size format fragment) }
+        ++ record_line place.number place.at place.size format fragment) }
 {
-    let number = record.number;
-    let at = record.at;
-    let size = record.size;
+    let number = place.number;
+    let at = place.at;
+    let size = place.size;
     write!(
         out,
         "record {number} at byte {at}, {size} bytes in format {format}, fragment {fragment}: "
@@ -75,14 +70,14 @@ fn put_numbered(
 /// Writes which record it is, where it is and of which fragment.
 fn put_record(
     out: &mut String,
-    record: Record,
+    place: Place,
     format: Format,
     fragment: u32,
 ) -> Result<(), AllocError>
     ensures { OnOk result (string_bytes out.new ≡ string_bytes out.old
-        ++ record_line record.number record.at record.size (formats.number format) fragment) }
+        ++ record_line place.number place.at place.size (formats.number format) fragment) }
 {
-    put_numbered(out, record, format.number(), fragment)
+    put_numbered(out, place, format.number(), fragment)
 }
 
 /// Shows the body of a record's answer, behind which the seal stands.
@@ -95,15 +90,15 @@ fn show_sealed(
     out: &mut String,
 ) -> Result<(), Stop>
     ensures shown { (read : Fields) → AreJobFields head.now.job.now read → Shows
-        (λ body. record_answer_text detail head.now.record.number head.now.record.at
-        head.now.record.size
+        (λ body. record_answer_text detail head.now.place.number head.now.place.at
+        head.now.place.size
         (laid_out head.now.format read head.now.fragment (shape_in shape.now) body)) result
         (string_bytes out.old) (string_bytes out.new) cursor.new.rest.now
         (sealed_body_at (shape_in shape.now) cursor.old.bytes.now cursor.old.rest.now) }
     ensures part { IsSamePart cursor.old cursor.new }
 {
-    put_job(out, head.record.number, head.job, shape)?;
-    put_record(out, head.record, head.format, head.fragment)?;
+    put_job(out, head.place.number, head.job, shape)?;
+    put_record(out, head.place, head.format, head.fragment)?;
     show_body(alloc, cursor, shape, detail, out)?;
     cursor.take_seal()
 }
@@ -117,8 +112,8 @@ fn show_shaped(
     out: &mut String,
 ) -> Result<(), Stop>
     ensures shown { (read : Fields) → AreJobFields head.now.job.now read → Shows
-        (λ p. record_answer_text detail head.now.record.number head.now.record.at
-        head.now.record.size (laid_out head.now.format read head.now.fragment p.0 p.1)) result
+        (λ p. record_answer_text detail head.now.place.number head.now.place.at
+        head.now.place.size (laid_out head.now.format read head.now.fragment p.0 p.1)) result
         (string_bytes out.old) (string_bytes out.new) cursor.new.rest.now
         (shaped_at head.now.format cursor.old.bytes.now cursor.old.rest.now) }
     ensures part { IsSamePart cursor.old cursor.new }
@@ -133,14 +128,14 @@ fn show_shaped(
 fn show_from_fragment(
     alloc: Global,
     cursor: &mut Cursor<'_>,
-    record: Record,
+    place: Place,
     format: Format,
     job: &JobFields<'_>,
     detail: Detail,
     out: &mut String,
 ) -> Result<(), Stop>
     ensures shown { (read : Fields) → AreJobFields job.now read → Shows
-        (λ b. record_answer_text detail record.number record.at record.size
+        (λ b. record_answer_text detail place.number place.at place.size
         (laid_out format read b.0 b.1.0 b.1.1)) result
         (string_bytes out.old) (string_bytes out.new) cursor.new.rest.now
         (from_fragment_at format cursor.old.bytes.now cursor.old.rest.now) }
@@ -148,7 +143,7 @@ fn show_from_fragment(
 {
     let fragment = cursor.take_u32("the fragment")?;
     let head = AnswerHead {
-        record,
+        place,
         format,
         job,
         fragment,
@@ -175,18 +170,18 @@ fn take_format(cursor: &mut Cursor<'_>) -> Result<Format, Stop>
 fn show_answer_of(
     alloc: Global,
     cursor: &mut Cursor<'_>,
-    record: Record,
+    place: Place,
     detail: Detail,
     out: &mut String,
 ) -> Result<(), Stop>
     requires whole { cursor.old.rest.now ≡ cursor.old.bytes.now }
-    ensures shown { Shows (record_answer_text detail record.number record.at record.size) result
+    ensures shown { Shows (record_answer_text detail place.number place.at place.size) result
         (string_bytes out.old) (string_bytes out.new) cursor.new.rest.now
         (whole_answer_at cursor.old.bytes.now) }
 {
     let format = take_format(cursor)?;
     let job = take_head(cursor)?;
-    show_from_fragment(alloc, cursor, record, format, &job, detail, out)
+    show_from_fragment(alloc, cursor, place, format, &job, detail, out)
 }
 
 /// Shows the record behind an open gate.
@@ -207,7 +202,7 @@ fn show_record(
     let bytes = cursor.take_bytes(length as usize, "a record")?;
     let size = bytes.len();
     let mut answer = Cursor::new(at, bytes);
-    show_answer_of(alloc, &mut answer, Record { number, at, size }, detail, out)
+    show_answer_of(alloc, &mut answer, Place { number, at, size }, detail, out)
 }
 
 fn put_behind(out: &mut String, behind: usize) -> Result<(), AllocError>

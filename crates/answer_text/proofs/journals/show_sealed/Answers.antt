@@ -18,8 +18,8 @@ returns-clause-shown c = λ job are.
     let (body, read, more) = c.in_ok-show_body.ensures.shown in
     let between = c.show_body.new.cursor.rest.now in
     let rest = c.take_seal.new.self.rest.now in
-    let first = first_text head.record.number job shape in
-    let line = record_line head.record.number head.record.at head.record.size (formats.number head.format) head.fragment in
-    shows_sealed c.args.cursor.now.bytes.now (body_at shape c.args.cursor.now.rest.now) (λ b. record_answer_text detail head.record.number head.record.at head.record.size (laid_out head.format job head.fragment shape b)) body between read c.take_seal.result old (string_bytes c.show_body.new.out) rest
+    let first = first_text head.place.number job shape in
+    let line = record_line head.place.number head.place.at head.place.size (formats.number head.format) head.fragment in
+    shows_sealed c.args.cursor.now.bytes.now (body_at shape c.args.cursor.now.rest.now) (λ b. record_answer_text detail head.place.number head.place.at head.place.size (laid_out head.format job head.fragment shape b)) body between read c.take_seal.result old (string_bytes c.show_body.new.out) rest
     (more ∙ ap (λ t. t ++ body_text detail shape body) (c.in_ok-put_record.ensures ∙ ap (λ t. t ++ line) (c.in_ok-put_job.ensures job are) ∙ append_assoc old first line) ∙ append_assoc old (first ++ line) (body_text detail shape body))
     (subst (λ whole. Takes (λ u. u) c.take_seal.result rest (seal_at whole between)) c.in_ok-show_body.ensures.part.1 c.take_seal.ensures.read)

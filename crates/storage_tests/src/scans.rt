@@ -67,22 +67,43 @@ fn is_scanned(alloc: Global, view: &FragmentView<'_>, column: &Column) -> Result
     Ok(true)
 }
 
-/// Each kind of block that integers and texts of this shape are written in.
-fn are_scanned(alloc: Global, shape: Shape, nullable: bool, rows: u32) -> Result<bool, Fail> {
-    let column = integers(alloc, shape, nullable, rows)?;
-    let bytes = file_of(alloc, integers(alloc, shape, nullable, rows)?)?;
-    let Ok(view) = open(alloc, &bytes) else {
-        return Ok(false);
-    };
-    if !is_scanned(alloc, &view, &column)? {
-        return Ok(false);
-    }
-    let column = texts(alloc, shape, nullable, rows)?;
-    let bytes = file_of(alloc, texts(alloc, shape, nullable, rows)?)?;
-    match open(alloc, &bytes) {
-        Ok(view) => Ok(is_scanned(alloc, &view, &column)?),
+/// Whether a scan of a file gives the column's rows.
+fn is_file_scanned(alloc: Global, bytes: &[u8], column: &Column) -> Result<bool, AllocError> {
+    match open(alloc, bytes) {
+        Ok(view) => is_scanned(alloc, &view, column),
         Err(_) => Ok(false),
     }
+}
+
+/// Whether a scan of the file that one column is written as gives the rows of the other.
+fn is_written_and_scanned(alloc: Global, written: Column, column: &Column) -> Result<bool, Fail> {
+    let bytes = file_of(alloc, written)?;
+    Ok(is_file_scanned(alloc, &bytes, column)?)
+}
+
+/// Each kind of block that integers of this shape are written in.
+fn are_integers_scanned(
+    alloc: Global,
+    shape: Shape,
+    nullable: bool,
+    rows: u32,
+) -> Result<bool, Fail> {
+    let column = integers(alloc, shape, nullable, rows)?;
+    is_written_and_scanned(alloc, integers(alloc, shape, nullable, rows)?, &column)
+}
+
+/// The same of texts.
+fn are_texts_scanned(alloc: Global, shape: Shape, nullable: bool, rows: u32) -> Result<bool, Fail> {
+    let column = texts(alloc, shape, nullable, rows)?;
+    is_written_and_scanned(alloc, texts(alloc, shape, nullable, rows)?, &column)
+}
+
+/// Each kind of block that integers and texts of this shape are written in.
+fn are_scanned(alloc: Global, shape: Shape, nullable: bool, rows: u32) -> Result<bool, Fail> {
+    Ok(
+        are_integers_scanned(alloc, shape, nullable, rows)?
+            && are_texts_scanned(alloc, shape, nullable, rows)?,
+    )
 }
 
 #[test]

@@ -121,5 +121,5 @@ pub none_listed : (shape : Shape) (detail : Detail) (old : List ℕ) → old ≡
 unfolding all_held_text
 none_listed shape detail old = no_text detail old
 
-pub one_longer : (cells : List Cell) (c : Cell) (k : ℕ) → length cells ≡ k → length (cells ++ c ∷ []) ≡ k + 1
-one_longer cells c k is = length-append cells (c ∷ []) ∙ ap (λ n. n + 1) is
+pub one_longer : {X : Type 0} (xs : List X) (x : X) (k : ℕ) → length xs ≡ k → length (xs ++ x ∷ []) ≡ k + 1
+one_longer xs x k is = length-append xs (x ∷ []) ∙ ap (λ n. n + 1) is

@@ -3,7 +3,6 @@ use Rattle.std.proofs.Common.{◌≡◌, ◌≢◌, ℕ, suc, ◌+◌, ◌-◌, 
 use Rattle.std.specs.Prelude.{Result, Ok, Err, flat_map}
 use Rattle.std.specs.List.{enumerate_from}
 use Rattle.std.proofs.lemmas.Grind.{flat_map-append}
-use Rattle.std.proofs.lemmas.List.{length-append}
 use Rattle.wire.specs.Reading.{◌>>=◌, Read}
 use Rattle.answer_fields.specs.declared.fault.DecodeFault.{DecodeFault}
 use Rattle.answer_text.specs.Journals.{JournalLayout, RecordLayout, ShowsGate, behind_record, gate_at, gate_text, gates_at, gates_text, no_records, record_at, record_text, records_text}
@@ -125,6 +124,3 @@ module _ (detail : Detail) (first : ℕ) (old : List ℕ) where
       → after ≡ old ++ gates_text detail first (record { records = records; before_gate = at; behind_gate = behind })
   gate_last records at behind before after so_far put =
       put ∙ ap (λ t. t ++ gate_text (capped (first + at)) behind) so_far ∙ append_assoc old (records_text detail first records) (gate_text (capped (first + at)) behind)
-
-pub longer : (records : List RecordLayout) (r : RecordLayout) (k : ℕ) → length records ≡ k → length (records ++ r ∷ []) ≡ k + 1
-longer records r k is = length-append records (r ∷ []) ∙ ap (λ n. n + 1) is

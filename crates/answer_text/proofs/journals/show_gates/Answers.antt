@@ -4,7 +4,8 @@ use Rattle.std.proofs.lemmas.Result.{err_from_is_err_and}
 use Rattle.answer_fields.specs.declared.fault.DecodeFault.{DecodeFault}
 use Rattle.answer_text.specs.Journals.{gates_at}
 use Rattle.answer_text.specs.Reading.{fault_in}
-use Rattle.answer_text.proofs.Gates.{begin, fail, finish, gate_last, go_on, if_closed, if_open, longer, no_text, of_part, record_more, stop}
+use Rattle.answer_text.proofs.Cells.{one_longer}
+use Rattle.answer_text.proofs.Gates.{begin, fail, finish, gate_last, go_on, if_closed, if_open, no_text, of_part, record_more, stop}
 use Rattle.answer_text.proofs.Took.{still}
 use Rattle.answer_text.proofs.journals.show_gates.Goals as goal
 
@@ -29,7 +30,7 @@ loop-number-preserved c =
       records ++ r ∷ [],
       go_on whole (gates_at whole c.args.many cursor.rest.now) c.args.many records number bytes so_far c.loop-number-test.true r rest read,
       record_more c.args.detail cursor.first old records r number before after long text put,
-      longer records r number long,
+      one_longer records r number long,
       still cursor c.loop-number.cursor c.show_gate.new.cursor same c.in_ok-show_gate.ensures.part,
     )
 

@@ -15,7 +15,7 @@ use Rattle.fragment_file.proofs.CutLaws.{cut_again}
 use Rattle.fragment_file.proofs.FromWire.{read_ok}
 use Rattle.fragment_file.proofs.HeaderLaws.{passed}
 use Rattle.answer_fields.specs.declared.fault.DecodeFault.{DecodeFault}
-use Rattle.show.specs.CutText.{cut_at, cut_of, length_at}
+use Rattle.table_text.specs.CutText.{cut_at, cut_of, length_at}
 use Rattle.show.proofs.Begins.{four_behind}
 
 as_shown : {X : Type 0} (x y : X) → (let r : Result X FileFault = Ok x in r) ≡ Ok y → (let r : Result X DecodeFault = Ok x in r) ≡ Ok y

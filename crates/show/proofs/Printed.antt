@@ -6,10 +6,10 @@ use Rattle.show.specs.declared.file_kind.FileKind.{FileKind}
 use Rattle.show.specs.declared.file_kind.FileKind.TheVariants as kind
 use Rattle.fragment_file.specs.CutFile.{CutFileSpec, IsCutFileOf}
 use Rattle.fragment_file.specs.Fragment.{FragmentSpec, IsFileOf}
-use Rattle.show.specs.CutText.{cut_at, cut_text}
+use Rattle.table_text.specs.CutText.{cut_at, cut_text}
 use Rattle.show.specs.Rows.{AreRecords}
 use Rattle.show.specs.Shown.{IsKnownOf, IsPrinted, IsRead, IsText, PrintsRead, detail_of, front_of, kind_of}
-use Rattle.show.specs.TableText.{TableLayout, fragment_of, table_at, table_text}
+use Rattle.table_text.specs.TableText.{TableLayout, fragment_of, table_at, table_text}
 use Rattle.show.specs.declared.showing.ShowOptions.{ShowOptions}
 use Rattle.answer_fields.specs.declared.format.Format.{Format}
 use Rattle.answer_fields.specs.declared.fault.DecodeFault.{DecodeFault}

@@ -21,9 +21,9 @@ use Rattle.fragment_file.proofs.FileLaws.{file_again}
 use Rattle.fragment_file.proofs.FromWire.{read_ok}
 use Rattle.fragment_file.proofs.HeaderLaws.{passed}
 use Rattle.answer_fields.specs.declared.fault.DecodeFault.{DecodeFault}
-use Rattle.show.specs.BlockText.{as_block, block_at}
-use Rattle.show.specs.HeaderText.{Front, Place, all_columns_at, column_at, columns_at, front_at, header_of, name_at, place_at}
-use Rattle.show.specs.TableText.{GroupLayout, TableLayout, blocks_at, fragment_of, group_at, group_of, groups_at, table_at, table_of}
+use Rattle.table_text.specs.BlockText.{as_block, block_at}
+use Rattle.table_text.specs.HeaderText.{Front, Place, all_columns_at, column_at, columns_at, front_at, header_of, name_at, place_at}
+use Rattle.table_text.specs.TableText.{GroupLayout, TableLayout, blocks_at, fragment_of, group_at, group_of, groups_at, table_at, table_of}
 use Rattle.show.proofs.Begins.{four_behind}
 
 as_shown : {X : Type 0} (x y : X) → (let r : Result X FileFault = Ok x in r) ≡ Ok y → (let r : Result X DecodeFault = Ok x in r) ≡ Ok y

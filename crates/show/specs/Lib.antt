@@ -1,8 +1,3 @@
 -- The definitions of this crate.
-pub mod BlockText
-pub mod CutText
-pub mod Fields
-pub mod HeaderText
 pub mod Rows
 pub mod Shown
-pub mod TableText

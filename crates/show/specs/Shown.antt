@@ -8,9 +8,9 @@ use Rattle.folders.specs.Folder.{AreHeld, Holds}
 use Rattle.answer_fields.specs.declared.format.Content.TheVariants as of
 use Rattle.answer_fields.specs.declared.format.Format.{Format}
 use Rattle.answer_fields.specs.Format.{format_in}
-use Rattle.show.specs.CutText.{cut_at, cut_text}
+use Rattle.table_text.specs.CutText.{cut_at, cut_text}
 use Rattle.show.specs.Rows.{AppendsRecords, AreRecords, HasRows}
-use Rattle.show.specs.TableText.{TableLayout, fragment_of, table_at, table_text}
+use Rattle.table_text.specs.TableText.{TableLayout, fragment_of, table_at, table_text}
 use Rattle.show.specs.declared.file_kind.FileKind.{FileKind}
 use Rattle.show.specs.declared.file_kind.FileKind.TheVariants as kind
 use Rattle.show.specs.declared.showing.ShowOptions.{ShowOptions}

@@ -3,9 +3,6 @@ ghost use Rattle.std.specs.Prelude.{◌≡◌, ◌+◌, ℕ, min, IfSome, OnOk};
 ghost use Rattle.csv.specs.Writing.{text_written};
 ghost use Rattle.show.specs.Rows.{AppendsRecords, AreRecords, IsBetween};
 
-use crate::blocks_shown::take_block;
-use crate::header::{show_columns, show_front};
-use crate::tables::{count_groups, take_group_rows};
 use answer_text::{Cursor, Stop};
 use blocks::BlockView;
 use csv::{ByteRecord, Writer, WriterBuilder};
@@ -14,6 +11,7 @@ use meaning::{Column, ValueRef};
 use std::alloc::{AllocError, Global};
 use std::io::Write;
 use std::mem::drop;
+use table_text::{count_groups, show_columns, show_front, take_block, take_group_rows};
 
 fn push_value(record: &mut ByteRecord, value: ValueRef<'_>) -> Result<(), AllocError> {
     match value {

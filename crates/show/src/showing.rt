@@ -8,9 +8,7 @@ ghost use Rattle.show.specs.declared.showing.ShowOptions.{ShowOptions as TheOpti
 ghost use Rattle.show.specs.Shown.{ArePartsOf, BeginsAsFile, HoldsFile, IsKnownOf, IsPrinted, IsTaken, IsText, IsWhole, PrintsParts, PrintsPartsOf, detail_of, front_of, kind_of};
 
 use crate::csv_rows::rows_of_table;
-use crate::cuts::show_cut_file;
 use crate::file_kind::{FileKind, kind_of};
-use crate::tables::show_table_file;
 use answer_text::{Cursor, Damage, Detail, Stop, Wrong, show_answer, show_journal, show_state};
 use folders::{Folder, try_read};
 use fragment_file::{open, read_cut};
@@ -18,6 +16,7 @@ use std::alloc::{AllocError, Global};
 use std::io;
 use std::io::Write;
 use std::mem::drop;
+use table_text::{show_cut_file, show_table_file};
 
 /// What is shown of a file.
 #[derive(Clone, Copy)]

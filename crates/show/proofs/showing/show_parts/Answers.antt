@@ -5,8 +5,8 @@ use Rattle.answer_text.specs.Journals.{journal_at, journal_text}
 use Rattle.answer_text.specs.Reading.{Shows, answer_at, state_at}
 use Rattle.answer_text.specs.StateTexts.{held_state_text}
 use Rattle.answer_text.specs.Texts.{answer_text}
-use Rattle.show.specs.CutText.{cut_at, cut_text}
-use Rattle.show.specs.TableText.{table_at, table_text}
+use Rattle.table_text.specs.CutText.{cut_at, cut_text}
+use Rattle.table_text.specs.TableText.{table_at, table_text}
 use Rattle.show.specs.declared.file_kind.FileKind.TheVariants as kind
 use Rattle.show.proofs.Parts.{behind_magic, of_kind, read_parts}
 use Rattle.show.proofs.showing.show_parts.Goals as goal

@@ -1,0 +1,12 @@
+//! The text of what stands in the file of a table or of a cut.
+#![tactic(auto)]
+
+mod blocks_shown;
+mod cuts;
+mod header;
+mod tables;
+
+pub use blocks_shown::take_block;
+pub use cuts::show_cut_file;
+pub use header::{show_columns, show_front};
+pub use tables::{count_groups, show_table_file, take_group_rows};

@@ -1,5 +1,5 @@
 -- The lemmas of this crate.
-pub mod Records
+pub mod RowsShown
 pub mod StateSpelled
 pub mod TableRead
 pub mod Begins

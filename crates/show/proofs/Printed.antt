@@ -1,14 +1,14 @@
 -- What is printed of a file that has no fault.
 use Rattle.std.proofs.Common.{◌≡◌, Bool, false, true, ℕ, ◌+◌, List, [], ◌++◌, length, drop, subst, ap, ◌∙◌}
-use Rattle.std.specs.Prelude.{Err, IfOk, IfSome, IsOk, None, Ok, OnOk, Option, Result, Some, min}
+use Rattle.std.specs.Prelude.{Err, IfOk, IsOk, None, Ok, OnOk, Option, Result, Some}
 use Rattle.std.specs.Io.KnownBytes.{Appends}
 use Rattle.show.specs.declared.file_kind.FileKind.{FileKind}
 use Rattle.show.specs.declared.file_kind.FileKind.TheVariants as kind
 use Rattle.fragment_file.specs.CutFile.{CutFileSpec, IsCutFileOf}
 use Rattle.fragment_file.specs.Fragment.{FragmentSpec, IsFileOf}
 use Rattle.table_text.specs.CutText.{cut_at, cut_text}
-use Rattle.show.specs.Rows.{AreRecords}
-use Rattle.show.specs.Shown.{IsKnownOf, IsPrinted, IsRead, IsText, PrintsRead, detail_of, front_of, kind_of}
+use Rattle.show.specs.Rows.{rows_text}
+use Rattle.show.specs.Shown.{AreRowsOf, IsPrinted, IsRead, IsTaken, IsText, PrintsRead, detail_of, front_of, kind_of}
 use Rattle.table_text.specs.TableText.{TableLayout, fragment_of, table_at, table_text}
 use Rattle.show.specs.declared.showing.ShowOptions.{ShowOptions}
 use Rattle.answer_fields.specs.declared.format.Format.{Format}
@@ -23,7 +23,7 @@ use Rattle.answer_text.proofs.Spelled.{answer_spelled}
 use Rattle.show.proofs.Begins.{begins_as_answer, begins_as_state}
 use Rattle.show.proofs.CutRead.{one_cut_read}
 use Rattle.show.proofs.StateSpelled.{state_spelled}
-use Rattle.show.proofs.TableRead.{one_table_read}
+use Rattle.show.proofs.TableRead.{one_table_read, table_of_file}
 
 pub ended_so : {E : Type 0} {P : Type 0} (r : Result (Unit {0}) E) → IsOk r → OnOk r P → P
 ended_so (Ok done) ok said = said
@@ -33,10 +33,7 @@ pub if_whole : {E : Type 0} {P Q : Type 0} (r : Result Bool E) → (P → Q) →
 if_whole (Ok whole) more said = λ is. more (said is)
 if_whole (Err e) more said = tt
 
-module _ (bytes : List ℕ) (known : Option ℕ) (front text : List ℕ) (before after : Option (List ℕ)) (appends : Appends before after (front ++ text)) where
-  rows_known : (rows n : ℕ) → known ≡ Some n → IfSome known (λ m. rows ≡ m) → rows ≡ n
-  rows_known rows n is said = let here : IfSome (Some n) (λ m. rows ≡ m) = subst (λ k. IfSome k (λ m. rows ≡ m)) is said in here
-
+module _ (bytes : List ℕ) (front text : List ℕ) (before after : Option (List ℕ)) (appends : Appends before after (front ++ text)) where
   spelled_so : (format : Format) (options : ShowOptions) → IsBytes bytes → front ≡ [] → kind_of bytes ≡ Some (kind.Answer format) → IsRead (answer_at format) (answer_text (detail_of options) (length bytes)) bytes text
       → IsPrinted (kind.Answer format) bytes options options.rows before after
   spelled_so format options ok none begins (l, rest, read, is) =
@@ -62,15 +59,16 @@ module _ (bytes : List ℕ) (known : Option ℕ) (front text : List ℕ) (before
       → (t : TableLayout) × (rest : List ℕ) × (table_at bytes (drop 4 bytes) ≡ Ok (t, rest)) × IsFileOf bytes (fragment_of t) × Appends before after (front_of kind.Table (length bytes) ++ table_text 0 (length bytes) t)
   of_table is (t, rest, there, more) f file = (t, rest, there, one_table_read bytes f t rest file there, subst (λ x. Appends before after x) (λ i. is i ++ more i) appends)
 
-  pub printed : (kind : FileKind) (options : ShowOptions) (most : Option ℕ) → IsBytes bytes → kind_of bytes ≡ Some kind → IsText kind bytes options most known front text → IsKnownOf kind bytes known
-      → IsPrinted kind bytes options most before after
-  printed kind.Table options None ok begins (is, parts) (n, known_is, (f, file, rows)) = of_table is parts f file
-  printed kind.Table options (Some most) ok begins (none, (rows, said, records)) (n, known_is, has) = (
-    n,
-    has,
-    (text, subst (λ m. AreRecords (1 + min most m) text) (rows_known rows n known_is said) records, subst (λ f. Appends before after (f ++ text)) none appends),
-  )
-  printed kind.Cut options most ok begins (is, parts) known_so = of_cut is parts known_so
-  printed (kind.Answer format) options most ok begins (is, parts) known_so = spelled_so format options ok is begins parts
-  printed (kind.State format) options most ok begins (is, parts) known_so = state_so format options ok is begins parts
-  printed kind.Journal options most ok begins (is, parts) known_so = read_so journal_at (journal_text (detail_of options) 0 (length bytes)) is parts
+  of_rows : (most : ℕ) → front ≡ [] → AreRowsOf bytes most text → (f : FragmentSpec) → IsFileOf bytes f
+      → (t : TableLayout) × (rest : List ℕ) × (table_at bytes (drop 4 bytes) ≡ Ok (t, rest)) × IsFileOf bytes (fragment_of t) × Appends before after (rows_text most t)
+  of_rows most none rows f file =
+      let (t, rest, there, same) = table_of_file bytes f file in
+      (t, rest, there, one_table_read bytes f t rest file there, subst (λ x. Appends before after x) (ap (λ f. f ++ text) none ∙ rows t rest there) appends)
+
+  pub printed : (kind : FileKind) (options : ShowOptions) (most : Option ℕ) → IsBytes bytes → kind_of bytes ≡ Some kind → IsText kind bytes options most front text → IsTaken kind bytes → IsPrinted kind bytes options most before after
+  printed kind.Table options None ok begins (is, parts) (f, file) = of_table is parts f file
+  printed kind.Table options (Some most) ok begins (none, rows) (f, file) = of_rows most none rows f file
+  printed kind.Cut options most ok begins (is, parts) taken = of_cut is parts taken
+  printed (kind.Answer format) options most ok begins (is, parts) taken = spelled_so format options ok is begins parts
+  printed (kind.State format) options most ok begins (is, parts) taken = state_so format options ok is begins parts
+  printed kind.Journal options most ok begins (is, parts) taken = read_so journal_at (journal_text (detail_of options) 0 (length bytes)) is parts

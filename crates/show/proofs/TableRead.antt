@@ -234,9 +234,13 @@ read_same bytes f e =
       (λ i. done (header i) (blocks i)) ∙ ok_is {E = FileFault} (done h.0.0 g.0.0) f d.2,
     )
 
+-- a table is read from its file's bytes
+pub table_of_file : (bytes : List ℕ) (f : FragmentSpec) → IsFileOf bytes f → (t : TableLayout) × (rest : List ℕ) × (table_at bytes (drop 4 bytes) ≡ Ok (t, rest)) × (fragment_of t ≡ f)
+table_of_file bytes f is = read_same bytes f (file_again bytes f is)
+
 -- what is read of a file's bytes is what they are the file of
 pub one_table_read : (bytes : List ℕ) (f : FragmentSpec) (t : TableLayout) (rest : List ℕ) → IsFileOf bytes f → table_at bytes (drop 4 bytes) ≡ Ok (t, rest) → IsFileOf bytes (fragment_of t)
 one_table_read bytes f t rest is there =
-    let (made, behind, same, whole) = read_same bytes f (file_again bytes f is) in
+    let (made, behind, same, whole) = table_of_file bytes f is in
     let one : t ≡ made = ap (λ (p : TableLayout × List ℕ). p.0) (ok_is {E = DecodeFault} (t, rest) (made, behind) (sym there ∙ same)) in
     subst (λ (x : FragmentSpec). IsFileOf bytes x) (sym (ap fragment_of one ∙ whole)) is

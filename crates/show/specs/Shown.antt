@@ -1,5 +1,5 @@
 -- Which file bytes begin as, and what is known of one that was shown without a fault.
-use Rattle.std.specs.Prelude.{◌≡◌, ℕ, List, [], ◌∷◌, ◌++◌, ◌+◌, min, length, drop, codes, decimal, Option, None, Some, IfSome, Ok, if◌then◌else◌, nat_eq, ⊤}
+use Rattle.std.specs.Prelude.{◌≡◌, ℕ, List, [], ◌∷◌, ◌++◌, length, drop, codes, decimal, Option, None, Some, Ok, if◌then◌else◌, nat_eq, ⊤}
 use Rattle.std.specs.Io.KnownBytes.{Appends}
 use Rattle.std.specs.List.{starts_with}
 use Rattle.fragment_file.specs.CutFile.{CutFileSpec, IsCutFileOf}
@@ -9,7 +9,7 @@ use Rattle.answer_fields.specs.declared.format.Content.TheVariants as of
 use Rattle.answer_fields.specs.declared.format.Format.{Format}
 use Rattle.answer_fields.specs.Format.{format_in}
 use Rattle.table_text.specs.CutText.{cut_at, cut_text}
-use Rattle.show.specs.Rows.{AppendsRecords, AreRecords, HasRows}
+use Rattle.show.specs.Rows.{rows_text}
 use Rattle.table_text.specs.TableText.{TableLayout, fragment_of, table_at, table_text}
 use Rattle.show.specs.declared.file_kind.FileKind.{FileKind}
 use Rattle.show.specs.declared.file_kind.FileKind.TheVariants as kind
@@ -64,12 +64,6 @@ front_of (kind.Answer f) size = []
 front_of (kind.State f) size = []
 front_of kind.Journal size = []
 
--- the number of a table's rows, where it is known; of a cut, that the bytes are the file of one
-abbrev pub IsKnownOf : FileKind → List ℕ → Option ℕ → Type 0
-IsKnownOf kind.Table bytes known = (rows : ℕ) × (known ≡ Some rows) × HasRows bytes rows
-IsKnownOf kind.Cut bytes known = (f : CutFileSpec) × IsCutFileOf bytes f
-IsKnownOf _ bytes known = ⊤
-
 -- a count of an answer's groups, or each of them
 abbrev pub detail_of : ShowOptions → Detail
 detail_of options = if options.groups then of_detail.Groups else of_detail.Count
@@ -86,21 +80,25 @@ ArePartsOf (kind.Answer f) bytes detail text = IsRead (answer_at f) (answer_text
 ArePartsOf (kind.State f) bytes detail text = IsRead (state_at f) (held_state_text detail (length bytes)) bytes text
 ArePartsOf kind.Journal bytes detail text = IsRead journal_at (journal_text detail 0 (length bytes)) bytes text
 
+-- where the bytes are a table's file, the text is that of its first rows
+abbrev pub AreRowsOf : List ℕ → ℕ → List ℕ → Type 0
+AreRowsOf bytes most text = (t : TableLayout) (rest : List ℕ) → table_at bytes (drop 4 bytes) ≡ Ok (t, rest) → text ≡ rows_text most t
+
 -- where rows of a table's file are asked for, a header and the first rows are printed, as many as are asked for or all that
 -- there are; else what stands in a file, behind the line in front of it
-abbrev pub IsText : FileKind → List ℕ → ShowOptions → Option ℕ → Option ℕ → List ℕ → List ℕ → Type 0
-IsText kind.Table bytes options (Some most) known front text = (front ≡ []) × ((rows : ℕ) × IfSome known (λ n. rows ≡ n) × AreRecords (1 + min most rows) text)
-IsText kind bytes options most known front text = (front ≡ front_of kind (length bytes)) × ArePartsOf kind bytes (detail_of options) text
+abbrev pub IsText : FileKind → List ℕ → ShowOptions → Option ℕ → List ℕ → List ℕ → Type 0
+IsText kind.Table bytes options (Some most) front text = (front ≡ []) × AreRowsOf bytes most text
+IsText kind bytes options most front text = (front ≡ front_of kind (length bytes)) × ArePartsOf kind bytes (detail_of options) text
 
 -- the text of the fields that are read behind the magic is printed
 abbrev pub PrintsRead : {Y : Type 0} → (List ℕ → List ℕ → Read DecodeFault Y) → (Y → List ℕ) → List ℕ → Option (List ℕ) → Option (List ℕ) → Type 0
 PrintsRead {Y} read text_of bytes before after = (y : Y) × (rest : List ℕ) × (read bytes (drop 4 bytes) ≡ Ok (y, rest)) × Appends before after (text_of y)
 
--- The same of what is printed of a file that has no fault. A table or a cut that is printed is the one that the bytes are the
--- file of, each row group at the byte where it was read. The bytes of an answer or a state are spelled by the fields that are
+-- The same of what is printed of a file that has no fault. A table, or its first rows, or a cut that is printed is the one that
+-- the bytes are the file of, each row group at the byte where it was read. The bytes of an answer or a state are spelled by the fields that are
 -- printed; those of a journal are read as them.
 abbrev pub IsPrinted : FileKind → List ℕ → ShowOptions → Option ℕ → Option (List ℕ) → Option (List ℕ) → Type 0
-IsPrinted kind.Table bytes options (Some most) before after = (rows : ℕ) × HasRows bytes rows × AppendsRecords (1 + min most rows) before after
+IsPrinted kind.Table bytes options (Some most) before after = (t : TableLayout) × (rest : List ℕ) × (table_at bytes (drop 4 bytes) ≡ Ok (t, rest)) × IsFileOf bytes (fragment_of t) × Appends before after (rows_text most t)
 IsPrinted kind.Table bytes options None before after = (t : TableLayout) × (rest : List ℕ) × (table_at bytes (drop 4 bytes) ≡ Ok (t, rest)) × IsFileOf bytes (fragment_of t) × Appends before after (front_of kind.Table (length bytes) ++ table_text 0 (length bytes) t)
 IsPrinted kind.Cut bytes options most before after = (f : CutFileSpec) × IsCutFileOf bytes f × Appends before after (front_of kind.Cut (length bytes) ++ cut_text f)
 IsPrinted (kind.Answer f) bytes options most before after = (l : Layout) × (l.format ≡ f) × (bytes ≡ sealed (layout_bytes l)) × Appends before after (answer_text (detail_of options) (length bytes) l)

@@ -2,10 +2,10 @@
 ghost use Rattle.std.specs.Prelude.{◌≡◌, ◌⊎◌, ◌++◌, ℕ, List, [], Some, false, true, IfOk, IsErr, IsOk, OnOk, length, string_bytes};
 ghost use Rattle.std.specs.Io.KnownBytes.{Appends};
 ghost use Rattle.fragment_file.specs.CutFile.{CutFileSpec, IsCutFileOf};
+ghost use Rattle.fragment_file.specs.Fragment.{FragmentSpec, IsFileOf};
 ghost use Rattle.folders.specs.Folder.{AreHeld};
-ghost use Rattle.show.specs.Rows.{HasRows};
 ghost use Rattle.show.specs.declared.showing.ShowOptions.{ShowOptions as TheOptions};
-ghost use Rattle.show.specs.Shown.{ArePartsOf, BeginsAsFile, HoldsFile, IsKnownOf, IsPrinted, IsTaken, IsText, IsWhole, PrintsParts, PrintsPartsOf, detail_of, front_of, kind_of};
+ghost use Rattle.show.specs.Shown.{ArePartsOf, AreRowsOf, BeginsAsFile, HoldsFile, IsPrinted, IsTaken, IsText, IsWhole, PrintsParts, PrintsPartsOf, detail_of, front_of, kind_of};
 
 use crate::csv_rows::rows_of_table;
 use crate::file_kind::{FileKind, kind_of};
@@ -140,15 +140,24 @@ fn parts_of(alloc: Global, kind: FileKind, bytes: &[u8], detail: Detail) -> Show
     }
 }
 
-/// The first rows of a table's file, and what is wrong with the file.
-fn rows_of(alloc: Global, bytes: &[u8], most: u32, known: Option<u32>) -> Shown
-    ensures { OnOk result.ended ((options : TheOptions)
-        → IsText FileKind.Table bytes.now options (Some most) known (string_bytes result.front)
-        result.bytes.items) }
+/// The first rows of a table's file, and why there aren't as many as it has.
+fn csv_of(alloc: Global, bytes: &[u8], most: u32) -> (Vec<u8>, Result<(), Stop>)
+    ensures { OnOk result.1 (AreRowsOf bytes.now most result.0.items) }
 {
     let mut cursor = Cursor::new(0, bytes);
-    let _magic = cursor.take_bytes(4, "the magic");
-    let (csv, written) = rows_of_table(alloc, &mut cursor, most, known);
+    match cursor.take_bytes(4, "the magic") {
+        Ok(_) => rows_of_table(alloc, &mut cursor, most),
+        Err(stop) => (Vec::new(alloc), Err(stop)),
+    }
+}
+
+/// The first rows of a table's file, and what is wrong with the file.
+fn rows_of(alloc: Global, bytes: &[u8], most: u32) -> Shown
+    ensures { OnOk result.ended ((options : TheOptions)
+        → IsText FileKind.Table bytes.now options (Some most) (string_bytes result.front)
+        result.bytes.items) }
+{
+    let (csv, written) = csv_of(alloc, bytes, most);
     let (parts, ended) = behind_front(alloc, FileKind::Table, bytes, Detail::Nothing);
     drop(parts);
     Shown {
@@ -158,23 +167,17 @@ fn rows_of(alloc: Global, bytes: &[u8], most: u32, known: Option<u32>) -> Shown
     }
 }
 
-/// What is printed of a file, the number of whose rows may be known.
-fn shown_of(
-    alloc: Global,
-    kind: FileKind,
-    bytes: &[u8],
-    options: ShowOptions,
-    known: Option<u32>,
-) -> Shown
+/// What is printed of a file.
+fn shown_of(alloc: Global, kind: FileKind, bytes: &[u8], options: ShowOptions) -> Shown
     ensures { OnOk result.ended
-        (IsText kind bytes.now options options.rows known (string_bytes result.front)
+        (IsText kind bytes.now options options.rows (string_bytes result.front)
         result.bytes.items) }
 {
     let Some(most) = options.rows else {
         return parts_of(alloc, kind, bytes, options.detail());
     };
     match kind {
-        FileKind::Table => rows_of(alloc, bytes, most, known),
+        FileKind::Table => rows_of(alloc, bytes, most),
         FileKind::Cut => parts_of(alloc, kind, bytes, options.detail()),
         FileKind::Answer(_) => parts_of(alloc, kind, bytes, options.detail()),
         FileKind::State(_) => parts_of(alloc, kind, bytes, options.detail()),
@@ -182,14 +185,12 @@ fn shown_of(
     }
 }
 
-/// The number of a table's rows.
-fn judge_table(alloc: Global, bytes: &[u8]) -> Result<u32, Stop>
-    ensures { IfOk result (HasRows bytes.now) }
+fn judge_table(alloc: Global, bytes: &[u8]) -> Result<(), Stop>
+    ensures { OnOk result ((f : FragmentSpec) × IsFileOf bytes.now f) }
 {
     let view = open(alloc, bytes)?;
-    let rows = view.header().rows;
     drop(view);
-    Ok(rows)
+    Ok(())
 }
 
 fn judge_cut(alloc: Global, bytes: &[u8]) -> Result<(), Stop>
@@ -200,21 +201,16 @@ fn judge_cut(alloc: Global, bytes: &[u8]) -> Result<(), Stop>
     Ok(())
 }
 
-/// Has the readers of tables and cuts take the bytes, as the commands do. Of a table it gives the
-/// number of rows.
-fn judge(alloc: Global, kind: FileKind, bytes: &[u8]) -> Result<Option<u32>, Stop>
-    ensures taken { OnOk result (IsTaken kind bytes.now) }
-    ensures known { IfOk result (IsKnownOf kind bytes.now) }
+/// Has the readers of tables and cuts take the bytes, as the commands do.
+fn judge(alloc: Global, kind: FileKind, bytes: &[u8]) -> Result<(), Stop>
+    ensures { OnOk result (IsTaken kind bytes.now) }
 {
     match kind {
-        FileKind::Table => Ok(Some(judge_table(alloc, bytes)?)),
-        FileKind::Cut => {
-            judge_cut(alloc, bytes)?;
-            Ok(None)
-        }
-        FileKind::Answer(_) => Ok(None),
-        FileKind::State(_) => Ok(None),
-        FileKind::Journal => Ok(None),
+        FileKind::Table => judge_table(alloc, bytes),
+        FileKind::Cut => judge_cut(alloc, bytes),
+        FileKind::Answer(_) => Ok(()),
+        FileKind::State(_) => Ok(()),
+        FileKind::Journal => Ok(()),
     }
 }
 
@@ -308,14 +304,13 @@ fn show_kind<O: Write, E: Write>(
         → IsPrinted kind bytes.now options options.rows (O.contents out.old)
         (O.contents out.new)) }
 {
-    match judge(alloc, kind, bytes) {
-        Ok(known) => {
-            let shown = shown_of(alloc, kind, bytes, options, known);
-            print(kind, path, &shown, out, err)
-        }
+    let judged = judge(alloc, kind, bytes);
+    let shown = shown_of(alloc, kind, bytes, options);
+    let whole = print(kind, path, &shown, out, err)?;
+    match judged {
+        Ok(()) => Ok(whole),
         Err(stop) => {
-            let shown = shown_of(alloc, kind, bytes, options, None);
-            if print(kind, path, &shown, out, err)? {
+            if whole {
                 report(kind, stop, path, err)?;
             }
             Ok(false)
@@ -393,9 +388,9 @@ pub fn show<F: Folder, O: Write, E: Write>(
     ensures silent { result ≡ 0 → E.contents err.new ≡ E.contents err.old }
     ensures quiet { (O.contents out.new ≡ O.contents out.old)
         ⊎ HoldsFile (F.holds folder.now) path.now }
-    // Of a table's file as many rows as are asked for are printed, or all; else the text of the table, or
-    // of the cut, that the bytes are the file of. Of an answer its fields are printed, by which its bytes
-    // are spelled.
+    // Of a table's file a header and its first rows are printed, as many as are asked for or all; else the
+    // text of the table, or of the cut, that the bytes are the file of. Of an answer its fields are printed,
+    // by which its bytes are spelled.
     ensures printed { result ≡ 0
         → PrintsPartsOf (F.holds folder.now) path.now options.now (O.contents out.old)
         (O.contents out.new) }

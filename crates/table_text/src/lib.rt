@@ -9,4 +9,4 @@ mod tables;
 pub use blocks_shown::take_block;
 pub use cuts::show_cut_file;
 pub use header::{show_columns, show_front};
-pub use tables::{count_groups, show_table_file, take_group_rows};
+pub use tables::{show_table_file, take_group_rows};

@@ -1,5 +1,5 @@
 //! Files of fragments and dimensions.
-ghost use Rattle.std.specs.Prelude.{◌≡◌, ◌≤◌, ◌<◌, ◌+◌, ◌*◌, ◌++◌, ◌∷◌, [], min, IfOk, OnOk, codes, decimal, length, map, string_bytes};
+ghost use Rattle.std.specs.Prelude.{◌≡◌, ◌++◌, ◌∷◌, [], min, IfOk, OnOk, codes, decimal, length, map, string_bytes};
 ghost use Rattle.meaning.specs.Limits.{row_group_rows};
 ghost use Rattle.fragment_file.specs.Fragment.{group_sizes};
 ghost use Rattle.answer_text.specs.Reading.{IsSamePart, Shows, Takes};
@@ -11,7 +11,7 @@ use crate::header::{show_columns, show_front};
 use answer_text::{Cursor, Stop, Wrong, put_share};
 use blocks::BlockView;
 use fragment_file::next_rows;
-use meaning::{Column, ROW_GROUP_ROWS};
+use meaning::Column;
 use std::alloc::{AllocError, Global};
 
 /// The number of rows of the next row group, of which so many are left.
@@ -27,14 +27,6 @@ pub fn take_group_rows(cursor: &mut Cursor<'_>, left: u32) -> Result<u32, Stop>
         return Err(cursor.refuse(Wrong::Header, field));
     }
     Ok(rows)
-}
-
-/// How many row groups so many rows have.
-pub fn count_groups(rows: u32) -> u32
-    ensures enough { rows ≤ row_group_rows * result }
-    ensures few { row_group_rows * result < rows + row_group_rows }
-{
-    rows.div_ceil(ROW_GROUP_ROWS as u32)
 }
 
 /// Shows the blocks of a row group, and keeps them.

@@ -1,19 +1,13 @@
 -- Proofs of the goals of `write_table` (`csv_rows`).
-use Rattle.std.proofs.Common.{◌≡◌, ℕ}
-use Rattle.std.specs.Prelude.{IfSome, None, Option, Some, min, unwrap_or}
+use Rattle.std.proofs.Common.{◌∙◌}
 use Rattle.std.proofs.lemmas.Result.{on_ok_weaker}
-use Rattle.show.proofs.Records.{more_records}
+use Rattle.show.proofs.RowsShown.{table_written}
 use Rattle.show.proofs.csv_rows.write_table.Goals as goal
-
-known_is : (known : Option ℕ) (read rows : ℕ) → rows ≡ unwrap_or known read → IfSome known (λ n. rows ≡ n)
-known_is None read rows is = tt
-known_is (Some n) read rows is = is
 
 pub returns : goal.returns
 returns g c =
-    let rows = c.unwrap_or-rows.result in
-    on_ok_weaker c.write_groups.result (λ appended. (
-      rows,
-      known_is c.args.known c.in_ok-read.read rows c.unwrap_or-rows.ensures,
-      more_records 1 (min c.args.most rows) _ _ _ c.in_ok-write_header.ensures.one appended,
-    )) c.write_groups.ensures
+    let (front, front_is, shown, rows) = c.in_ok-rows.ensures.shown in
+    let (columns, columns_are, shown_too, same) = c.in_ok-columns.ensures.shown in
+    on_ok_weaker c.write_groups.result
+    (table_written c.args.most c.args.cursor.now.bytes.now c.args.cursor.now.rest.now front c.show_front.new.cursor.rest.now columns c.show_columns.new.cursor.rest.now c.as_slice-columns.result.now c.in_ok-rows.rows c.show_columns.new.cursor.bytes.now _ _ _ front_is columns_are rows
+    (c.as_slice-columns.ensures.value ∙ same) (c.in_ok-columns.ensures.part.1 ∙ c.in_ok-rows.ensures.part.1) c.in_ok-write_header.ensures.text) c.write_groups.ensures

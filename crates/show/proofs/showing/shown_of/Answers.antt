@@ -13,5 +13,5 @@ returns-in-Table c =
     let options = c.args.options in
     let shown = c.rows_of.result in
     on_ok_weaker shown.ended (λ said.
-    subst (λ (k : FileKind). IsText k bytes options options.rows c.args.known (string_bytes shown.front) shown.bytes.items) (sym c.in-Table.is)
-    (subst (λ (m : Option ℕ). IsText kind.Table bytes options m c.args.known (string_bytes shown.front) shown.bytes.items) (sym c.in-Some.is) (said options))) c.rows_of.ensures
+    subst (λ (k : FileKind). IsText k bytes options options.rows (string_bytes shown.front) shown.bytes.items) (sym c.in-Table.is)
+    (subst (λ (m : Option ℕ). IsText kind.Table bytes options m (string_bytes shown.front) shown.bytes.items) (sym c.in-Some.is) (said options))) c.rows_of.ensures

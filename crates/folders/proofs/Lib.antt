@@ -1,3 +1,4 @@
 -- The lemmas of this crate.
 pub mod Each
 pub mod Others
+pub mod Unprinted

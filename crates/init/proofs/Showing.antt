@@ -9,6 +9,7 @@ use Rattle.std.proofs.lemmas.List.FromFn.{get_or-map-range_with_len, length-map-
 use Rattle.csv.specs.declared.reader.Reader.{Reader}
 use Rattle.meaning.specs.declared.catalog.Column.{Column}
 use Rattle.meaning.specs.Records.{Record, spells_null}
+use Rattle.loader.proofs.Judging.{from_index}
 use Rattle.loader.specs.Source.{IsLeft, TakesNext}
 use Rattle.init.specs.declared.fault.ColumnFault.{ColumnFault}
 use Rattle.init.specs.declared.fault.InitFault.{InitFault}
@@ -21,14 +22,6 @@ use Rattle.init.specs.Refusing.{IsOfPath, IsUnread}
 use Rattle.init.specs.Shown.{IsLack, Lack, column_of, columns_of, found_at, found_in, is_null, may_be_integer, named, names_from, names_of, shown}
 
 -- ---- the header
-
-from_suc : {A : Type 0} (zs : List A) (i : ℕ) (z : A) → slice_get zs i ≡ Some z → drop i zs ≡ z ∷ drop (suc i) zs
-from_suc [] i z e = cc e
-from_suc {A = A} (x ∷ zs) zero z e = let same : x ≡ z = cc e in ap (λ (y : A). y ∷ zs) same
-from_suc (x ∷ zs) (suc i) z e = from_suc zs i z e
-
-from_index : {A : Type 0} (zs : List A) (i : ℕ) (z : A) → slice_get zs i ≡ Some z → drop i zs ≡ z ∷ drop (i + 1) zs
-from_index zs i z e = let one : suc i ≡ i + 1 = omega arith in from_suc zs i z e ∙ ap (λ k. z ∷ drop k zs) one
 
 -- behind these names the header has this field
 pub name_more : (fields before : List (List ℕ)) (index : ℕ) (field name : List ℕ) → names_from [] fields ≡ names_from before (drop index fields) → slice_get fields index ≡ Some field → named before field ≡ Ok name

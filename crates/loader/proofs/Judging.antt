@@ -12,7 +12,7 @@ from_suc [] i z e = cc e
 from_suc {A = A} (x ∷ zs) zero z e = let same : x ≡ z = cc e in ap (λ (y : A). y ∷ zs) same
 from_suc (x ∷ zs) (suc i) z e = from_suc zs i z e
 
-from_index : {A : Type 0} (zs : List A) (i : ℕ) (z : A) → slice_get zs i ≡ Some z → drop i zs ≡ z ∷ drop (i + 1) zs
+pub from_index : {A : Type 0} (zs : List A) (i : ℕ) (z : A) → slice_get zs i ≡ Some z → drop i zs ≡ z ∷ drop (i + 1) zs
 from_index zs i z e = from_suc zs i z e ∙ ap (λ k. z ∷ drop k zs) (sym (add-one i))
 
 past_end : {A : Type 0} (zs : List A) (i : ℕ) → length zs ≤ i → drop i zs ≡ []

@@ -3,27 +3,16 @@ use Rattle.std.proofs.Common.{◌≡◌, ◌≢◌, ℕ, List, inl, inr, sym, �
 use Rattle.meaning.specs.Cut.{Cut}
 use Rattle.meaning.specs.declared.catalog.Catalog.{Catalog}
 use Rattle.meaning.specs.declared.catalog.Dimension.{Dimension}
+use Rattle.folders.proofs.Unprinted.{memory_apart, unread_apart}
 use Rattle.folders.specs.Folder.{Holds}
-use Rattle.folders.specs.Refused.{IsUnread, IsUnwritten}
-use Rattle.folders.specs.Tables.{IsCatalogRefused}
+use Rattle.folders.specs.Refused.{IsUnwritten}
 use Rattle.folders.specs.declared.refusal.Refusal.{Refusal}
 use Rattle.folders.specs.declared.refusal.Refusal.TheVariants as refusal
 use Rattle.loads.specs.Refusing.{AreDimensionsRefused, AreFilesUnwritten, IsDimensionRefused, IsFactRefused, IsFactUnloaded, IsUneven}
 
-memory_apart : (e : Refusal) → e ≡ refusal.Memory → e ≢ refusal.CannotPrint
-memory_apart e memory = λ is. let bad : refusal.Memory ≡ refusal.CannotPrint = sym memory ∙ is in cc bad
-
-unread_apart : (path : List ℕ) (e : Refusal) → IsUnread path e → e ≢ refusal.CannotPrint
-unread_apart path e (inl memory) = memory_apart e memory
-unread_apart path e (inr unread) = λ is. let bad : refusal.CannotRead path ≡ refusal.CannotPrint = sym unread ∙ is in cc bad
-
 unwritten_apart : (path : List ℕ) (e : Refusal) → IsUnwritten path e → e ≢ refusal.CannotPrint
 unwritten_apart path e (inl memory) = memory_apart e memory
 unwritten_apart path e (inr unwritten) = λ is. let bad : refusal.CannotWrite path ≡ refusal.CannotPrint = sym unwritten ∙ is in cc bad
-
-pub catalog_apart : (holds : Holds) (folder : List ℕ) (e : Refusal) → IsCatalogRefused holds folder e → e ≢ refusal.CannotPrint
-catalog_apart holds folder e (inl unread) = unread_apart _ e unread
-catalog_apart holds folder e (inr (bytes, fault, held, wrong, returned)) = λ is. let bad : refusal.Catalog fault ≡ refusal.CannotPrint = sym returned ∙ is in cc bad
 
 uneven_apart : (counted rows : ℕ) (e : Refusal) → IsUneven counted rows e → e ≢ refusal.CannotPrint
 uneven_apart counted rows e (inl memory) = memory_apart e memory

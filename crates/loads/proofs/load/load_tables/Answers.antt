@@ -2,7 +2,7 @@
 use Rattle.std.proofs.Common.{inl, refl}
 use Rattle.std.proofs.lemmas.Result.{err_from_is_err_and}
 use Rattle.folders.proofs.Others.{catalog_other, other_tried}
-use Rattle.loads.proofs.Printed.{catalog_apart}
+use Rattle.folders.proofs.Unprinted.{catalog_apart}
 use Rattle.loads.proofs.load.load_tables.Goals as goal
 
 pub returns-in_err-catalog-clause-unwritten : goal.returns-in_err-catalog-clause-unwritten

@@ -6,3 +6,4 @@ pub mod Refusals
 pub mod Largest
 pub mod Showing
 pub mod Untried
+pub mod Saying

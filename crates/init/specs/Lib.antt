@@ -6,3 +6,4 @@ pub mod Making
 pub mod Refusing
 pub mod Guessed
 pub mod Guessing
+pub mod Saying

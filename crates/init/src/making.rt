@@ -1,10 +1,12 @@
 //! The catalogue of a folder's CSV files.
 ghost use Rattle.std.specs.Prelude.{◌≡◌, ◌⊎◌, true, ℕ, List, [], map, string_bytes, IfErr, IfOk, IfSome, OnErr, OnOk, option_map};
+ghost use Rattle.std.specs.Io.KnownBytes.{Appends};
 ghost use Rattle.folders.specs.Folder.{WritesOne, catalog_path, csv_path};
 ghost use Rattle.init.specs.Guessed.{AreDimensionsOf, AreShown, DeclaresFiles, IsFirstKey, IsGuess, others};
 ghost use Rattle.init.specs.Guessing.{AreDimensionsUnmade, IsAskedOrHidden, IsDimensionUnmade, IsFactOf, IsFactUnfound, IsGuessable, IsGuessRefused, IsListed, IsMakeRefused, IsNoCatalog, IsTableRefused, IsTextRefused, IsTextUndeclared, IsUnlisted};
 ghost use Rattle.init.specs.Making.{Declares, IsAsAsked, IsCatalogFor};
 ghost use Rattle.init.specs.Refusing.{IsAskedFor, IsNotAbsent, IsTriedFor, IsUnwritten};
+ghost use Rattle.init.specs.Saying.{AreKeysOf, AreSaid, SaysChoices, SaysDimensions, dimension_line, fact_line, reason_of};
 ghost use Rattle.init.specs.Shown.{is_short_name};
 
 use crate::checking::{check_catalog, check_declared, opened};
@@ -89,6 +91,11 @@ fn dimension_of<F: Folder, E: Write>(
         × AreShown (F.holds folder.now) (csv_path directory.now table.now)
         keyed.dimension.table.columns
         × IsFirstKey (F.holds folder.now) (csv_path directory.now table.now) keyed.dimension) }
+    ensures keys { IfOk result (λ keyed.
+        AreKeysOf (F.holds folder.now) (csv_path directory.now table.now) keyed.dimension
+        keyed.others.items) }
+    ensures said { IfOk result (λ keyed. Appends (E.contents err.old) (E.contents err.new)
+        (dimension_line keyed.dimension keyed.others.items)) }
     ensures refused { IfErr result
         (IsDimensionUnmade (F.holds folder.now) (csv_path directory.now table.now) table.now) }
     ensures unread { IfErr result (IsAskedFor (F.asks folder.now)) }
@@ -116,6 +123,10 @@ fn add_dimensions<F: Folder, E: Write>(
     ensures made { OnOk result ((dims.old.items ≡ [])
         → AreDimensionsOf (F.holds folder.now) directory.now (others fact.now files.now)
         (map (λ keyed. keyed.dimension) dims.new.items)) }
+    ensures said { OnOk result ((dims.old.items ≡ []) → (text : List ℕ)
+        × AreSaid (F.holds folder.now) directory.now
+        (map (λ keyed. keyed.dimension) dims.new.items) text
+        × Appends (E.contents err.old) (E.contents err.new) text) }
     ensures refused { IfErr result (λ e. (dims.old.items ≡ [])
         → AreDimensionsUnmade (F.holds folder.now) directory.now files.now fact.now e) }
     ensures unread { IfErr result (IsAskedFor (F.asks folder.now)) }
@@ -142,6 +153,10 @@ fn dimensions_of<F: Folder, E: Write>(
     ensures made { IfOk result
         (λ dims. AreDimensionsOf (F.holds folder.now) directory.now (others fact.now files.now)
         (map (λ keyed. keyed.dimension) dims.items)) }
+    ensures said { IfOk result (λ dims. (text : List ℕ)
+        × AreSaid (F.holds folder.now) directory.now (map (λ keyed. keyed.dimension) dims.items)
+        text
+        × Appends (E.contents err.old) (E.contents err.new) text) }
     ensures refused { IfErr result
         (AreDimensionsUnmade (F.holds folder.now) directory.now files.now fact.now) }
     ensures unread { IfErr result (IsAskedFor (F.asks folder.now)) }
@@ -167,6 +182,8 @@ fn fact_of<'a, E: Write>(
     ensures named { IfOk result (λ name. IfSome asked.entry (λ asked. name.now ≡ asked.now)) }
     ensures found { IfOk result
         (λ name. IsFactOf (option_map (λ asked. asked.now) asked.entry) files.entry.now name.now) }
+    ensures said { IfOk result (λ name. Appends (E.contents err.old) (E.contents err.new)
+        (fact_line (reason_of (option_map (λ asked. asked.now) asked.entry)) name.now)) }
     ensures refused { IfErr result
         (IsFactUnfound (option_map (λ asked. asked.now) asked.entry) files.entry.now
         directory.now) }
@@ -218,6 +235,8 @@ fn text_with<F: Folder, E: Write>(
     ensures declared { IfOk result
         (λ text. DeclaresFiles (F.holds folder.now) directory.now files.now fact.now
         (string_bytes text)) }
+    ensures said { IfOk result (λ text. SaysDimensions (F.holds folder.now) directory.now
+        (string_bytes text) (E.contents err.old) (E.contents err.new)) }
     ensures refused { IfErr result
         (λ e. AreDimensionsUnmade (F.holds folder.now) directory.now files.now fact.now.name e
         ⊎ ((text : List ℕ) × IsNoCatalog text e)) }
@@ -240,6 +259,8 @@ fn text_for<F: Folder, E: Write>(
     ensures guess { IfOk result
         (λ text. IsGuess (F.holds folder.now) directory.now files.now fact.now
         (string_bytes text)) }
+    ensures said { IfOk result (λ text. SaysDimensions (F.holds folder.now) directory.now
+        (string_bytes text) (E.contents err.old) (E.contents err.new)) }
     ensures refused { IfErr result
         (IsTextUndeclared (F.holds folder.now) directory.now files.now fact.now) }
     ensures unread { IfErr result (IsAskedFor (F.asks folder.now)) }
@@ -262,6 +283,8 @@ fn checked_text<F: Folder, E: Write>(
     ensures fit { IfOk result (IsCatalogFor (F.holds folder.now) directory.now) }
     ensures guess { IfOk result
         (IsGuess (F.holds folder.now) directory.now files.now fact.now) }
+    ensures said { IfOk result (λ text. SaysDimensions (F.holds folder.now) directory.now
+        text (E.contents err.old) (E.contents err.new)) }
     ensures refused { IfErr result
         (IsTextRefused (F.holds folder.now) directory.now files.now fact.now) }
     ensures unread { IfErr result (IsAskedFor (F.asks folder.now)) }
@@ -290,6 +313,9 @@ pub fn guess_catalog<F: Folder + Listing, E: Write>(
     ensures guessable { IfOk result
         (IsGuessable (F.holds folder.now) (F.lists folder.now) directory.now
         (option_map (λ fact. fact.now) fact.entry)) }
+    ensures said { IfOk result (λ text. SaysChoices (F.holds folder.now) directory.now
+        (option_map (λ fact. fact.now) fact.entry) text (E.contents err.old)
+        (E.contents err.new)) }
     ensures refused { IfErr result
         (IsGuessRefused (F.holds folder.now) (F.lists folder.now) (F.hides folder.now)
         directory.now
@@ -354,7 +380,10 @@ pub fn make_catalog<F: Folder + Listing, E: Write>(
         × IsGuessable (F.holds folder.old) (F.lists folder.old) directory.now
         (option_map (λ fact. fact.now) fact.entry) text
         × WritesOne (catalog_path directory.now) (λ given. given ≡ text) (F.wrote folder.old)
-        (F.wrote folder.new)) }
+        (F.wrote folder.new)
+        × SaysChoices (F.holds folder.old) directory.now
+        (option_map (λ fact. fact.now) fact.entry) text (E.contents err.old)
+        (E.contents err.new)) }
     ensures refused { IfErr result
         (IsMakeRefused (F.holds folder.old) (F.opens folder.old) (F.lacks folder.old)
         (F.lists folder.old) (F.hides folder.old) directory.now (option_map (λ fact. fact.now) fact.entry)) }

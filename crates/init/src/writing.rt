@@ -1,4 +1,7 @@
 //! The text of a catalogue.
+ghost use Rattle.std.specs.Prelude.{◌≡◌, IfOk, string_bytes};
+ghost use Rattle.init.specs.Saying.{column_name, names_text};
+
 use crate::keys::Keyed;
 use meaning::{ColType, Column, Table};
 use std::alloc::{AllocError, Global};
@@ -37,7 +40,9 @@ fn add_fact(alloc: Global, text: &mut String, fact: &Table) -> Result<(), AllocE
 }
 
 /// The name of a column, or nothing where there is none.
-pub fn column_name(table: &Table, index: usize) -> &str {
+pub fn column_name(table: &Table, index: usize) -> &str
+    ensures { result.now ≡ column_name table.now index }
+{
     match table.columns.get(index) {
         Some(column) => column.name.as_str(),
         None => "",
@@ -45,12 +50,16 @@ pub fn column_name(table: &Table, index: usize) -> &str {
 }
 
 /// The names of columns, with commas between.
-pub fn names_of(alloc: Global, table: &Table, columns: &[usize]) -> Result<String, AllocError> {
+pub fn names_of(alloc: Global, table: &Table, columns: &[usize]) -> Result<String, AllocError>
+    ensures { IfOk result (λ names. string_bytes names ≡ names_text table.now columns.now) }
+{
     let mut names = String::new(alloc);
-    for (place, index) in columns.iter().enumerate() {
-        if place > 0 {
-            names.push_str(", ")?;
-        }
+    let Some((first, others)) = columns.split_first() else {
+        return Ok(names);
+    };
+    names.push_str(column_name(table, *first))?;
+    for index in others {
+        names.push_str(", ")?;
         names.push_str(column_name(table, *index))?;
     }
     Ok(names)

@@ -8,6 +8,7 @@ use Rattle.folders.specs.declared.refusal.Refusal.TheVariants as refusal
 use Rattle.init.specs.declared.listing.CsvFile.{CsvFile}
 use Rattle.init.specs.Guessing.{IsGuessable}
 use Rattle.init.specs.Making.{IsAsAsked, IsCatalogFor}
+use Rattle.init.specs.Saying.{SaysChoices}
 use Rattle.show.specs.declared.showing.ShowOptions.{ShowOptions}
 use Rattle.show.specs.Shown.{HoldsFile, IsWhole, PrintsPartsOf}
 use Rattle.tools.specs.Explained.{PrintsEntry}
@@ -46,12 +47,17 @@ LeavesFiles holds lists (Refusal words) status before after = after ≡ before
 LeavesFiles holds lists (Explain words) status before after = ExplainsPlan holds words.folder words.query status before after
 LeavesFiles holds lists (Show words) status before after = ShowsFile holds words.path status before after
 
--- a tool that ends with 0 has written nothing to standard error, but what was chosen for a catalogue
-abbrev pub IsSilent : Tool → Option (List ℕ) → Option (List ℕ) → Type 0
-IsSilent (Init words) before after = ⊤
-IsSilent (Refusal words) before after = after ≡ before
-IsSilent (Explain words) before after = after ≡ before
-IsSilent (Show words) before after = after ≡ before
+-- what was chosen for the catalogue that was written is said
+abbrev pub SaysCatalog : Holds → List ℕ → Option (List ℕ) → Option (List Change) → Option (List Change) → Option (List ℕ) → Option (List ℕ) → Type 0
+SaysCatalog holds folder fact wrote_before wrote_after before after =
+    (text : List ℕ) × WritesOne (catalog_path folder) (λ given. given ≡ text) wrote_before wrote_after × SaysChoices holds folder fact text before after
+
+-- what a tool that ends with 0 leaves of standard error: what was chosen for a catalogue, and else nothing
+abbrev pub LeavesErrors : Holds → Tool → Option (List Change) → Option (List Change) → Option (List ℕ) → Option (List ℕ) → Type 0
+LeavesErrors holds (Init words) wrote_before wrote_after before after = SaysCatalog holds words.folder words.fact wrote_before wrote_after before after
+LeavesErrors holds (Refusal words) wrote_before wrote_after before after = after ≡ before
+LeavesErrors holds (Explain words) wrote_before wrote_after before after = after ≡ before
+LeavesErrors holds (Show words) wrote_before wrote_after before after = after ≡ before
 
 -- The query has no plan for this reason, and nothing was printed unless standard output failed. A file that can't be read was asked
 -- for.

@@ -1,7 +1,7 @@
 //! Runs a tool and gives its exit status.
 ghost use Rattle.std.specs.Prelude.{◌≡◌, option_map};
 ghost use Rattle.tools.specs.Explained.{PrintsEntry};
-ghost use Rattle.tools.specs.Running.{ExplainsPlan, IsSilent, IsStatus, LeavesFiles, LeavesOutput, MakesCatalog, PrintsExplanation, PrintsFile, ShowsFile};
+ghost use Rattle.tools.specs.Running.{ExplainsPlan, IsStatus, LeavesErrors, LeavesFiles, LeavesOutput, MakesCatalog, PrintsExplanation, PrintsFile, SaysCatalog, ShowsFile};
 
 use crate::explaining::entry_of;
 use crate::words::{ExplainWords, InitWords, ShowWords, Tool};
@@ -38,6 +38,9 @@ fn run_init<F: Folder + Listing, E: Write>(
     ensures status { IsStatus result }
     ensures files { MakesCatalog (F.holds folder.old) (F.lists folder.old) words.now.folder
         words.now.fact result (F.wrote folder.old) (F.wrote folder.new) }
+    ensures said { result ≡ 0
+        → SaysCatalog (F.holds folder.old) words.now.folder words.now.fact (F.wrote folder.old)
+        (F.wrote folder.new) (E.contents err.old) (E.contents err.new) }
 {
     match make_catalog(alloc, folder, words.folder.as_str(), fact_in(words), err) {
         Ok(()) => 0,
@@ -128,8 +131,9 @@ pub fn run<F: Folder + Listing, O: Write, E: Write>(
     ensures status { IsStatus result }
     ensures files { LeavesFiles (F.holds folder.old) (F.lists folder.old) tool.now result
         (F.wrote folder.old) (F.wrote folder.new) }
-    ensures silent { result ≡ 0
-        → IsSilent tool.now (E.contents err.old) (E.contents err.new) }
+    ensures errors { result ≡ 0
+        → LeavesErrors (F.holds folder.old) tool.now (F.wrote folder.old) (F.wrote folder.new)
+        (E.contents err.old) (E.contents err.new) }
     ensures output { LeavesOutput (F.holds folder.old) (F.asks folder.old) tool.now result
         (O.contents out.old) (O.contents out.new) }
 {

@@ -15,4 +15,4 @@ returns-in_err-dimension-clause-refused g c =
     rw (p.1, p.2) (inr (c.in_ok-table.ensures.short, columns, c.in_ok-table.ensures.shown, inl refused))
 
 pub returns-in-Err-clause-refused : goal.returns-in-Err-clause-refused
-returns-in-Err-clause-refused g c = inr (c.in_ok-table.ensures.short, c.in_ok-table.table.columns, c.in_ok-table.ensures.shown, inr c.in-Err.ensures)
+returns-in-Err-clause-refused g c = inr (c.in_ok-table.ensures.short, c.in_ok-table.table.columns, c.in_ok-table.ensures.shown, inr c.in-Err.ensures.refused)

@@ -6,6 +6,7 @@ use Rattle.meaning.specs.Limits.{max_dimensions}
 use Rattle.init.specs.Guessed.{IsGuess}
 use Rattle.init.specs.Guessing.{IsFactOf, IsTextRefused}
 use Rattle.init.proofs.Guessing.{as_asked}
+use Rattle.init.proofs.Saying.{choices_said, said_of}
 use Rattle.init.proofs.making.guess_catalog.Goals as goal
 
 pub returns-clause-named : goal.returns-clause-named
@@ -47,3 +48,12 @@ returns-clause-refused g c =
         inr (few, subst (λ items. IsTextRefused (g.F.Folder.holds c.args.folder.now) c.args.directory.now items fact e) c.as_slice-2.ensures.value refused),
       ),
     )) c.checked_text.ensures.refused
+
+pub returns-clause-said : goal.returns-clause-said
+returns-clause-said g c =
+    let holds = g.F.Folder.holds c.args.folder.now in
+    let files = c.in_ok-files.files.items in
+    let fact = c.in_ok-fact.fact.now in
+    let asked = option_map (λ asked. asked.now) c.args.fact in
+    said_of c.checked_text.result (λ text guess said. choices_said holds c.args.directory.now files asked fact text _ _ _ (subst (λ items. IsGuess holds c.args.directory.now items fact text) c.as_slice-2.ensures.value guess) c.in_ok-fact.ensures.said said)
+    c.checked_text.ensures.guess c.checked_text.ensures.said

@@ -7,7 +7,7 @@ use Rattle.folders.specs.Folder.{Holds}
 use Rattle.folders.specs.Tables.{IsCatalogRefused, IsCatalogThere}
 use Rattle.folders.specs.declared.refusal.Refusal.{Refusal}
 use Rattle.folders.specs.declared.refusal.Refusal.TheVariants as refusal
-use Rattle.explain.specs.Conditions.{AreConditions}
+use Rattle.explain.specs.Conditions.{AreConditions, blanks_text}
 use Rattle.planner.specs.QueryText.{IsPlanned, IsTextRefused}
 use Rattle.planner.specs.declared.query_fault.QueryFault.{QueryFault}
 use Rattle.planner.specs.declared.query_fault.QueryFault.TheVariants as fault
@@ -24,11 +24,12 @@ with_text front plan = ((front ++ codes "text: ") ++ plan.text) ++ 10 ∷ []
 abbrev pub EndsWithText : Plan → List ℕ → Type 0
 EndsWithText plan text = (front : List ℕ) × (text ≡ with_text front plan)
 
--- the lines of the plan's conditions stand in it, each with the condition's place, and the last line is that of the plan's text
+-- the lines of the plan's conditions stand in it, as far in as each other, each with the condition's place, and the last line is that of the plan's text
 pub record IsOutline (plan : Plan) (text : List ℕ) : Type 0 where
   pub head : List ℕ
   pub conditions : List ℕ
-  pub conditions_are : AreConditions (length plan.joins) plan.conjuncts conditions
+  pub depth : ℕ
+  pub conditions_are : AreConditions (blanks_text depth) (length plan.joins) plan.conjuncts conditions
   pub tail : List ℕ
   pub ends : EndsWithText plan tail
   pub whole : text ≡ head ++ (conditions ++ tail)

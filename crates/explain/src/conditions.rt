@@ -1,6 +1,6 @@
 //! The conditions of a plan, one a line, each with the place where it is tested.
 ghost use Rattle.std.specs.Prelude.{◌≡◌, IfOk, OnOk, length, string_bytes};
-ghost use Rattle.explain.specs.Conditions.{AddsConditions, AreConditions, IsCondition, IsPlaceText, marks_words};
+ghost use Rattle.explain.specs.Conditions.{AddsConditions, AreConditions, IsCondition, IsPlaceText, blanks_text, marks_words};
 
 use crate::expressions::put;
 use crate::names::Names;
@@ -91,7 +91,7 @@ fn condition_line(
     leads: bool,
 ) -> Result<String, AllocError>
     ensures { IfOk result
-        (λ line. IsCondition joins number leads condition.now (string_bytes line)) }
+        (λ line. IsCondition blanks.now joins number leads condition.now (string_bytes line)) }
 {
     let text = expression_text(alloc, names, condition)?;
     let place = place_text(alloc, names, place_of(condition, joins), leads)?;
@@ -99,7 +99,9 @@ fn condition_line(
     format!(in alloc; "{blanks}{number}. {text}: {place}\n")
 }
 
-fn blanks_of(alloc: Global, depth: usize) -> Result<String, AllocError> {
+fn blanks_of(alloc: Global, depth: usize) -> Result<String, AllocError>
+    ensures { IfOk result (λ blanks. string_bytes blanks ≡ blanks_text depth) }
+{
     let mut blanks = String::new(alloc);
     for _ in 0..depth {
         blanks.push_str("  ")?;
@@ -115,7 +117,7 @@ fn add_lines(
     joins: usize,
     out: &mut String,
 ) -> Result<(), AllocError>
-    ensures { OnOk result (AddsConditions joins conditions.now (string_bytes out.old)
+    ensures { OnOk result (AddsConditions blanks.now joins conditions.now (string_bytes out.old)
         (string_bytes out.new)) }
 {
     let leading = count_leading(conditions, joins);
@@ -127,15 +129,15 @@ fn add_lines(
     Ok(())
 }
 
-/// The lines of a plan's conditions, in their order.
+/// The lines of a plan's conditions, in their order, so many steps in.
 pub fn condition_lines(
     alloc: Global,
     names: &Names<'_>,
     plan: &Plan,
     depth: usize,
 ) -> Result<String, AllocError>
-    ensures { IfOk result (λ text. AreConditions (length plan.now.joins) plan.now.conjuncts
-        (string_bytes text)) }
+    ensures { IfOk result (λ text. AreConditions (blanks_text depth) (length plan.now.joins)
+        plan.now.conjuncts (string_bytes text)) }
 {
     let blanks = blanks_of(alloc, depth)?;
     let mut lines = String::new(alloc);

@@ -6,7 +6,6 @@ use Rattle.std.proofs.KnownBytes.{Appends-trans}
 use Rattle.meaning.specs.declared.catalog.Catalog.{Catalog}
 use Rattle.meaning.specs.declared.catalog.CatalogFault.{CatalogFault}
 use Rattle.meaning.specs.declared.catalog.Dimension.{Dimension}
-use Rattle.catalog_reader.specs.CatalogText.{catalog_of}
 use Rattle.folders.specs.Folder.{Holds, csv_path}
 use Rattle.init.specs.declared.listing.CsvFile.{CsvFile}
 use Rattle.init.specs.Guessed.{IsGuess}

@@ -1,5 +1,5 @@
 -- What a tool leaves.
-use Rattle.std.specs.Prelude.{◌≡◌, ◌≢◌, ◌⊎◌, ℕ, List, Option, ⊤}
+use Rattle.std.specs.Prelude.{◌≡◌, ◌≢◌, ◌⊎◌, ℕ, List, Option}
 use Rattle.explain.specs.Explaining.{IsExplained, IsUnexplained, PrintsPlan}
 use Rattle.folders.specs.Folder.{AreHeld, Change, Holds, WritesOne, catalog_path}
 use Rattle.folders.specs.Refused.{IsAskedFor}

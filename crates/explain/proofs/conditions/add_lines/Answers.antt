@@ -1,5 +1,5 @@
 -- Proofs of the goals of `add_lines` (`conditions`).
-use Rattle.std.proofs.Common.{◌≡◌, ◌<◌, ◌++◌, ◌∷◌, [], List, length, refl, rules, sym, append-nil, arith}
+use Rattle.std.proofs.Common.{◌<◌, ◌++◌, [], length, refl, rules, sym, append-nil, arith}
 use Rattle.std.specs.Prelude.{string_bytes}
 use Rattle.explain.proofs.Lines.{added, all_lines, next_line}
 use Rattle.explain.proofs.conditions.add_lines.Goals as goal

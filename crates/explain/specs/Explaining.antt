@@ -24,7 +24,8 @@ with_text front plan = ((front ++ codes "text: ") ++ plan.text) ++ 10 ∷ []
 abbrev pub EndsWithText : Plan → List ℕ → Type 0
 EndsWithText plan text = (front : List ℕ) × (text ≡ with_text front plan)
 
--- the lines of the plan's conditions stand in it, as far in as each other, each with the condition's place, and the last line is that of the plan's text
+-- The lines of the plan's conditions stand in it, as far in as each other, each with the condition's place, and the last line is
+-- that of the plan's text.
 pub record IsOutline (plan : Plan) (text : List ℕ) : Type 0 where
   pub head : List ℕ
   pub conditions : List ℕ

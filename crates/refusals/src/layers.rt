@@ -1,6 +1,7 @@
 //! The parts of the program that refuse something by an error code.
 ghost use Rattle.std.specs.Prelude.{◌≡◌, IfSome};
 ghost use Rattle.refusals.specs.Codes.{layer_of, word_of};
+ghost use Rattle.refusals.specs.Texts.{span_text};
 
 /// A part of the program that refuses something by an error code.
 #[derive(Clone, Copy, Debug, Drop, PartialEq, Eq)]
@@ -51,7 +52,9 @@ impl Layer {
     }
 
     /// Its word, and its error codes for people.
-    pub fn codes(self) -> &'static str {
+    pub fn codes(self) -> &'static str
+        ensures { result.now ≡ span_text self }
+    {
         match self {
             Layer::Catalog => "catalog 1 to 6",
             Layer::Cut => "cut 1 to 3",

@@ -1,7 +1,9 @@
 //! The entry of a refusal.
-ghost use Rattle.std.specs.Prelude.{◌≡◌, IfSome, is_some};
+ghost use Rattle.std.specs.Prelude.{◌≡◌, IfSome, OnOk, flat_map, is_some};
+ghost use Rattle.std.specs.Io.KnownBytes.{Appends};
 ghost use Rattle.refusals.specs.Codes.{has_code, is_known, word_of};
 ghost use Rattle.refusals.specs.Lines.{IsOfCode};
+ghost use Rattle.refusals.specs.Texts.{known_text, layer_line};
 
 use crate::entries::Entry;
 use crate::layers::Layer;
@@ -40,11 +42,28 @@ pub fn entry(word: &str, number: u8) -> Option<Entry>
     }
 }
 
-/// Prints which refusals have an entry, a layer a line.
-pub fn print_known<W: Write>(out: &mut W) -> io::Result<()> {
-    for layer in Layer::ALL {
-        writeln!(out, "  {}", layer.codes())?;
+fn print_layer<W: Write>(layer: Layer, out: &mut W) -> io::Result<()>
+    ensures { OnOk result (Appends (W.contents out.old) (W.contents out.new) (layer_line layer)) }
+{
+    let codes = layer.codes();
+    writeln!(out, "  {codes}")
+}
+
+fn print_layers<W: Write>(layers: &[Layer], out: &mut W) -> io::Result<()>
+    ensures { OnOk result (Appends (W.contents out.old) (W.contents out.new)
+        (flat_map layer_line layers.now)) }
+{
+    for layer in layers {
+        print_layer(*layer, out)?;
     }
+    Ok(())
+}
+
+/// Prints which refusals have an entry, a layer a line.
+pub fn print_known<W: Write>(out: &mut W) -> io::Result<()>
+    ensures { OnOk result (Appends (W.contents out.old) (W.contents out.new) known_text) }
+{
+    print_layers(&Layer::ALL, out)?;
     out.write_all(
         b"  memory, cannot read, cannot write,\n  cannot write standard error, cannot write standard output\n",
     )

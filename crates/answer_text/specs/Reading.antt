@@ -1,5 +1,5 @@
 -- What a cursor's readers give of the bytes that are left, and why reading ends.
-use Rattle.std.specs.Prelude.{◌≡◌, ◌≢◌, ℕ, ◌+◌, ◌-◌, ◌^◌, min, List, ◌++◌, length, Result, Ok, Err}
+use Rattle.std.specs.Prelude.{◌≡◌, ◌≢◌, ◌⊎◌, ℕ, ◌+◌, ◌-◌, ◌^◌, min, List, ◌++◌, codes, length, Result, Ok, Err}
 use Rattle.std.specs.Borrow.{Bor}
 use Rattle.meaning.specs.declared.plan.AggregateKind.{AggregateKind}
 use Rattle.meaning.specs.Said.{Body, Cell}
@@ -14,6 +14,8 @@ use Rattle.answer_fields.specs.Spelling.{Layout}
 use Rattle.answer_fields.specs.StateSpelling.{StateLayout, cell_at, state_laid_out}
 use Rattle.answer_fields.specs.declared.fault.DecodeFault.{DecodeFault}
 use Rattle.answer_fields.specs.declared.fault.DecodeFault.TheVariants as fault
+use Rattle.fragment_file.specs.declared.fault.FileFault.{FileFault}
+use Rattle.fragment_file.specs.declared.fault.FileFault.TheVariants as file
 use Rattle.answer_text.specs.declared.cursor.Cursor.{Cursor}
 use Rattle.answer_text.specs.declared.damage.Stop.{Stop}
 use Rattle.answer_text.specs.declared.damage.Stop.TheVariants as stop
@@ -79,6 +81,22 @@ IsSamePart a b = (b.first ≡ a.first) × (b.bytes.now ≡ a.bytes.now)
 abbrev pub IsPlaced : ℕ → List ℕ → Stop → Type 0
 IsPlaced at field stop.Memory = ⊥
 IsPlaced at field (stop.Damaged d) = (d.at ≡ at) × (d.field.now ≡ field)
+
+-- a damage of the seal, which begins at this byte; or of bytes behind it, the first of which is at that one
+abbrev pub IsSealPlaced : ℕ → ℕ → Stop → Type 0
+IsSealPlaced seal end e = IsPlaced seal (codes "the seal") e ⊎ IsDamage wrong.BytesBehind end (codes "the end") e
+
+-- why a whole file is refused, where no field of it was read
+abbrev pub IsUnplaced : FileFault → Stop → Type 0
+IsUnplaced file.Memory e = e ≡ stop.Memory
+IsUnplaced file.Device e = e ≡ stop.Memory
+IsUnplaced file.Magic e = IsDamage wrong.OtherMagic 0 (codes "the file") e
+IsUnplaced file.Truncated e = IsDamage wrong.EndsEarly 0 (codes "the file") e
+IsUnplaced file.TrailingBytes e = IsDamage wrong.BytesBehind 0 (codes "the file") e
+IsUnplaced file.Seal e = IsDamage wrong.OtherSeal 0 (codes "the file") e
+IsUnplaced (file.Block group column) e = IsDamage (wrong.NoBlock group column) 0 (codes "the file") e
+IsUnplaced file.Header e = IsDamage wrong.Header 0 (codes "the file") e
+IsUnplaced file.Limit e = IsDamage wrong.Limit 0 (codes "the file") e
 
 -- the part that was taken from the front, and the bytes behind it; or why there is none
 abbrev pub GoesOn : {X : Type 0} → Result (X × Bor (List ℕ)) WireFault → Result X Stop → List ℕ → Type 0

@@ -1,8 +1,8 @@
 //! Fields from the front of bytes, each with the place at which it stands.
-ghost use Rattle.std.specs.Prelude.{◌≡◌, IfErr, length};
+ghost use Rattle.std.specs.Prelude.{◌≡◌, IfErr, OnOk, length};
 ghost use Rattle.wire.specs.Reading.{bytes_at, i64_at, i128_at, number_at};
 ghost use Rattle.answer_fields.specs.Fault.{fault_of as of_wire, from_wire};
-ghost use Rattle.answer_text.specs.Reading.{GoesOn, IsDamage, IsPlaced, IsSamePart, Takes, fault_in, fault_of, offset, place, seal_at, text_of_bytes};
+ghost use Rattle.answer_text.specs.Reading.{GoesOn, IsDamage, IsPlaced, IsSamePart, IsSealPlaced, Takes, fault_in, fault_of, offset, place, seal_at, text_of_bytes};
 
 use crate::damage::{Damage, Stop, Wrong, wrong_of};
 use wire::{
@@ -166,6 +166,7 @@ impl<'a> Cursor<'a> {
         ensures read { Takes (λ t. t.now) result self.new.rest.now
             (from_wire (text_of_bytes count self.old.rest.now)) }
         ensures part { IsSamePart self.old self.new }
+        ensures last { self.new.last ≡ offset self.old }
         ensures placed { IfErr result (IsPlaced (place self.old (offset self.old)) field.now) }
     {
         let bytes = self.take_bytes(count, field)?;
@@ -180,6 +181,8 @@ impl<'a> Cursor<'a> {
         ensures fault { fault_in result ≡ of_wire fault }
         ensures part { IsSamePart self.old self.new }
         ensures rest { self.new.rest.now ≡ self.old.rest.now }
+        ensures placed { IsSealPlaced (place self.old self.old.last)
+            (place self.old (offset self.old)) result }
     {
         match fault {
             WireFault::TrailingBytes => {
@@ -195,6 +198,9 @@ impl<'a> Cursor<'a> {
         ensures read { Takes (λ u. u) result self.new.rest.now
             (seal_at self.old.bytes.now self.old.rest.now) }
         ensures part { IsSamePart self.old self.new }
+        ensures last { OnOk result (self.new.last ≡ offset self.old) }
+        ensures placed { IfErr result
+            (IsSealPlaced (place self.old (offset self.old)) (place self.old (offset self.new))) }
     {
         let seal = self.take_bytes(SEAL_BYTES, SEAL)?;
         match check_seal(self.bytes, seal, self.rest) {

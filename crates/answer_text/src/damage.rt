@@ -1,7 +1,7 @@
 //! What is wrong with a file, and where.
-ghost use Rattle.std.specs.Prelude.{◌≡◌};
+ghost use Rattle.std.specs.Prelude.{◌≡◌, codes};
 ghost use Rattle.answer_fields.specs.Fault.{fault_of as of_wire};
-ghost use Rattle.answer_text.specs.Reading.{fault_of, number_of};
+ghost use Rattle.answer_text.specs.Reading.{IsDamage, IsUnplaced, fault_of, number_of};
 ghost use Rattle.answer_text.specs.declared.damage.Stop.TheVariants as stop;
 
 use fragment_file::FileFault;
@@ -98,7 +98,9 @@ impl<T: Drop> From<AllocFailed<T>> for Stop {
 }
 
 // Of a file whose parts were shown without a fault, so that there is no place.
-fn unplaced(wrong: Wrong) -> Stop {
+fn unplaced(wrong: Wrong) -> Stop
+    ensures { IsDamage wrong 0 (codes "the file") result }
+{
     Stop::Damaged(Damage {
         wrong,
         at: 0,
@@ -107,6 +109,8 @@ fn unplaced(wrong: Wrong) -> Stop {
 }
 
 impl From<FileFault> for Stop {
+    ghost from_gives = { λ fault given. IsUnplaced fault given };
+
     fn from(fault: FileFault) -> Stop {
         match fault {
             FileFault::Memory | FileFault::Device => Stop::Memory,

@@ -1,5 +1,5 @@
 -- How a block of a table's file is read, and what is printed of it and of all blocks of a column.
-use Rattle.std.specs.Prelude.{ℕ, ◌+◌, ◌-◌, ◌^◌, ◌==◌, min, Bool, if◌then◌else◌, List, [], ◌∷◌, ◌++◌, length, map, sum, codes, decimal, Option, None, Some, Ok, Err}
+use Rattle.std.specs.Prelude.{◌≡◌, ◌≢◌, ℕ, ◌+◌, ◌-◌, ◌^◌, ◌==◌, min, Bool, if◌then◌else◌, List, [], ◌∷◌, ◌++◌, length, map, sum, codes, decimal, Option, None, Some, Ok, Err}
 use Rattle.std.specs.List.{filter, flat_map, slice_get}
 use Rattle.meaning.specs.declared.catalog.Column.{Column}
 use Rattle.blocks.specs.Block.{Block, body_of, nulls_of}
@@ -14,6 +14,8 @@ use Rattle.answer_fields.specs.declared.fault.DecodeFault.{DecodeFault}
 use Rattle.fragment_file.specs.FragmentReading.{block_of, kind_of}
 use Rattle.answer_text.specs.Reading.{capped, fault_of}
 use Rattle.answer_text.specs.Shares.{share_text}
+use Rattle.answer_text.specs.declared.damage.Stop.{Stop}
+use Rattle.answer_text.specs.declared.damage.Stop.TheVariants as stop
 use Rattle.answer_text.specs.declared.damage.Wrong.TheVariants as wrong
 use Rattle.table_text.specs.declared.blocks_shown.Total.{Total}
 
@@ -35,6 +37,15 @@ payload_at bytes = do
 -- a block of so many rows of a column
 unfoldable pub block_at : Column → ℕ → List ℕ → Read DecodeFault Block
 block_at c rows bytes = payload_at bytes >>= λ p. as_block (block_of (kind_of p.0.0) c rows p.0.1) p.1
+
+-- there is no block of this row group and this column
+abbrev pub IsNoBlock : ℕ → ℕ → Stop → Type 0
+IsNoBlock group column stop.Memory = ⊥
+IsNoBlock group column (stop.Damaged d) = d.wrong ≡ wrong.NoBlock group column
+
+-- so it is refused where a payload stands there, unless memory was wanting
+abbrev pub IsRefusedBlock : ℕ → ℕ → List ℕ → Stop → Type 0
+IsRefusedBlock group column bytes e = e ≢ stop.Memory → (payload : ℕ × List ℕ) (rest : List ℕ) → payload_at bytes ≡ Ok (payload, rest) → IsNoBlock group column e
 
 -- ---- what is printed of a block
 

@@ -1,10 +1,10 @@
 //! Blocks, and what the blocks of a column come to.
-ghost use Rattle.std.specs.Prelude.{◌≡◌, ◌+◌, ◌==◌, ◌++◌, ◌∷◌, [], if◌then◌else◌, List, OnOk, codes, map, slice_get, string_bytes};
+ghost use Rattle.std.specs.Prelude.{◌≡◌, ◌+◌, ◌==◌, ◌++◌, ◌∷◌, [], if◌then◌else◌, IfErr, List, OnOk, codes, length, map, slice_get, string_bytes};
 ghost use Rattle.blocks.specs.Block.{Block, body_of};
 ghost use Rattle.blocks.specs.Frame.{width_of};
 ghost use Rattle.blocks.specs.Kind.{kind_code};
 ghost use Rattle.answer_text.specs.Reading.{IsSamePart, Takes, capped};
-ghost use Rattle.table_text.specs.BlockText.{block_at, block_line, bytes_text, column_blocks, counts_text, entries_text, if_any, kind_text, kinds_text, leading, name_text, null_count, nulls_text, payload_at, runs_text, short_capped, sizes_text, some_text, total_line, total_of, width_text};
+ghost use Rattle.table_text.specs.BlockText.{IsRefusedBlock, block_at, block_line, bytes_text, column_blocks, counts_text, entries_text, if_any, kind_text, kinds_text, leading, name_text, null_count, nulls_text, payload_at, runs_text, short_capped, sizes_text, some_text, total_line, total_of, width_text};
 ghost use Rattle.table_text.specs.Fields.{ShowsAs};
 
 use answer_text::{Cursor, Stop, Wrong, put_share};
@@ -145,6 +145,7 @@ pub fn take_block<'a>(
     ensures read { Takes (λ b. b) result cursor.new.rest.now
         (block_at column.now rows cursor.old.rest.now) }
     ensures part { IsSamePart cursor.old cursor.new }
+    ensures refused { IfErr result (IsRefusedBlock group number cursor.old.rest.now) }
 {
     let (code, payload) = take_payload(cursor)?;
     match block_of(code, column, rows, payload) {
@@ -172,6 +173,8 @@ pub fn show_block<'a>(
         (block_line column.now.name) result (string_bytes out.old) (string_bytes out.new)
         cursor.new.rest.now (block_at column.now rows cursor.old.rest.now) }
     ensures part { IsSamePart cursor.old cursor.new }
+    ensures refused { IfErr result
+        (IsRefusedBlock group (length blocks.old.items) cursor.old.rest.now) }
 {
     let block = take_block(cursor, group, blocks.len() as u64, column, rows)?;
     put_block(out, column.name.as_str(), &block)?;

@@ -17,7 +17,7 @@ since() {
 }
 
 every_crate() {
-    sed -n 's/^\([a-z_0-9]*\).*:.*/\1/p' "$top/crates.txt"
+    sed -n 's/^\([a-z_0-9]*\).*:.*/\1/p' "${top:?}/crates.txt"
 }
 
 # A crate and all that it stands on.

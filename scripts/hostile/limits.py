@@ -1,5 +1,5 @@
 #!/usr/bin/env python3
-"""limits.py XCOLS CASES: each limit once with ample memory, through the built programs, since a call that answers want of memory
+"""limits.py XCOLS [CASES]: each limit once with ample memory, through the built programs, since a call that answers want of memory
 at an odd size is proved too. What must come out is counted here by hand. The last line counts the checks."""
 import concurrent.futures
 import os
@@ -10,7 +10,7 @@ import tempfile
 
 from formats import DICT, FRAME, INT, PLAIN, RUNS, TEXT, judged_fragment
 
-XCOLS, CASES = map(os.path.abspath, sys.argv[1:3])
+XCOLS, CASES = [*map(os.path.abspath, sys.argv[1:3]), None][:2]
 MOST_ROWS = 1_048_576
 passed = failed = 0
 
@@ -57,6 +57,9 @@ def fragments():
     put("many/n.csv", ["v\n"] + ["1\n"] * 4097)
     refused = xcols("load", "many", "--load", "7", "--rows", "1")
     check("4,097 fragments", refused == (1, "", "xcols: cut 2\n"), refused)
+    if CASES is None:
+        print("limits: 4,096 fragments in one call: skipped, the program `cases` isn't there")
+        return
     # In memory: a cut of 4,096 fragments is loaded, answered and gathered by one call.
     with open("whole.case", "w") as file:
         file.write("file s/catalog.txt\nfact n\ncol v int\n\nescaped s/n.csv\nv\\n\n*4096 1\\n\n\n")

@@ -1,7 +1,7 @@
 #!/usr/bin/env python3
-"""refused_memory.py CASES [XCOLS] [--keep]: refuses one allocation after the other of the built programs, and then that
-allocation and all behind it: `cases` over each file of scripts/hostile/memory and over refused_memory.case, and `xcols` over a
-folder of this machine. A run does what it does with ample memory, or says that memory ran out: a case in its own lines and
+"""refused_memory.py [--cases CASES] [--xcols XCOLS] [--keep]: refuses one allocation after the other of the built programs, and
+then that allocation and all after it: `cases` over each file of scripts/hostile/memory and over refused_memory.case, and `xcols`
+over a folder of this machine. A run does what it does with ample memory, or says that memory ran out: a case in its own lines and
 `xcols` with status 1, without a file but those of the run with ample memory and without a part of one; or `cases` ends where no
 case can go on. How many allocations were refused is printed and compared with the file `allocations`, which --keep writes:
 where there are fewer than nine tenths of them, a call has stopped allocating. The last line counts the runs."""
@@ -211,15 +211,16 @@ def compare(totals, keep):
 
 def main():
     parser = argparse.ArgumentParser()
-    parser.add_argument("cases")
-    parser.add_argument("xcols", nargs="?")
+    parser.add_argument("--cases")
+    parser.add_argument("--xcols")
     parser.add_argument("--keep", action="store_true")
     parser.add_argument("--only", help="the case file or the command of this name alone")
     words = parser.parse_args()
     totals = Totals()
     with tempfile.TemporaryDirectory() as room, concurrent.futures.ThreadPoolExecutor(os.cpu_count()) as pool:
         shim = built(room)
-        refuse_cases(pool, shim, os.path.abspath(words.cases), totals, words.only)
+        if words.cases:
+            refuse_cases(pool, shim, os.path.abspath(words.cases), totals, words.only)
         if words.xcols:
             refuse_xcols(pool, shim, os.path.abspath(words.xcols), totals, words.only)
     compare(totals, words.keep)

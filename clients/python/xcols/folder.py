@@ -22,7 +22,7 @@ MAX_ROWS = 1_048_576
 
 @dataclass(frozen=True)
 class Loaded:
-    """What a load wrote: so many rows of the fact table, in so many fragments."""
+    """What a load wrote: the number of the fact table's rows, and that of its fragments."""
 
     rows: int
     fragments: int
@@ -54,7 +54,8 @@ class Preview:
 class Folder:
     """A folder with `catalog.txt` and one `NAME.csv` a table, or with the files that `load` wrote.
 
-    program: the program's path; without it the environment's XCOLS, `xcols` on the path, or the repository's built one.
+    program: the program's path; without it the environment's XCOLS, the one installed with this package, `xcols` on the path,
+    or the repository's.
 
     >>> folder = Folder("examples/sales")
     >>> folder.whole("SELECT SUM(q) AS pieces FROM sales").rows
@@ -76,8 +77,8 @@ class Folder:
         return self._program.run("init", self.path, *_option("--fact", fact)).err
 
     def load(self, rows: int = MAX_ROWS, load: int | None = None) -> Loaded:
-        """Writes the tables into files of columns, so many rows a fragment. `load` is the number that the files carry, by
-        default the seconds since 1970.
+        """Writes the tables into files of columns, with this number of rows in a fragment. `load` is the number that the files
+        carry, by default the seconds since 1970; two loads with one number can't be distinguished.
 
         >>> folder.load(rows=2)
         Loaded(rows=5, fragments=3)

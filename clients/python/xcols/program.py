@@ -6,15 +6,17 @@ import os
 import shutil
 import subprocess
 from dataclasses import dataclass
+from functools import cache
 from pathlib import Path
 
 from xcols.errors import NoProgram, UsageError, refusal_of
 
-_HOW_TO_BUILD = (
-    "the program xcols isn't there. In the repository, `./xcols --help` builds it with the Rattle toolchain, which takes over "
-    "half an hour at the first time; then put it on the path by `./install PREFIX`, or name it by the environment's XCOLS or "
-    "by Folder(path, program=..)"
+_HOW_TO_GET = (
+    "the program xcols isn't there: this package has none for this machine. In the repository, `./install PREFIX` installs it: at "
+    "once where the repository's release runs, on Linux with x86_64 and glibc 2.34 or later, and else with the Rattle toolchain, which takes "
+    "over an hour to prove and build it. Put it on the path, or name it by the environment's XCOLS or by Folder(path, program=..)"
 )
+_PACKAGE = Path(__file__).resolve().parent
 
 
 @dataclass(frozen=True)
@@ -27,19 +29,29 @@ class Ran:
 
 
 def find_program(program: str | os.PathLike[str] | None = None) -> str:
-    """The program's path: `program`, else the environment's `XCOLS`, else `xcols` on the path, else the built one of the
-    repository that this file lies in. Raises NoProgram."""
+    """The program's path: `program`, else the environment's `XCOLS`, else the one that was installed with this package, else
+    `xcols` on the path, else the one that `./xcols` runs in the repository that this file lies in. Raises NoProgram."""
     named = program or os.environ.get("XCOLS")
     if named:
         found = shutil.which(os.fspath(named))
         if found is None:
-            raise NoProgram(f"{os.fspath(named)} can't be run: {_HOW_TO_BUILD}")
+            raise NoProgram(f"{os.fspath(named)} can't be run: {_HOW_TO_GET}")
         return found
-    built = Path(__file__).resolve().parents[3] / "crates/xcols/out/xcols"
-    found = shutil.which("xcols") or (str(built) if os.access(built, os.X_OK) else None)
+    installed = _PACKAGE / "bin/xcols"
+    found = str(installed) if os.access(installed, os.X_OK) else shutil.which("xcols") or _of_repository()
     if found is None:
-        raise NoProgram(_HOW_TO_BUILD)
+        raise NoProgram(_HOW_TO_GET)
     return found
+
+
+@cache
+def _of_repository() -> str | None:
+    """The program that the repository's `./xcols` runs, where this file lies in one and there is a program."""
+    script = _PACKAGE.parents[2] / "xcols"
+    if not script.is_file() or not os.access(script, os.X_OK):
+        return None
+    said = subprocess.run([script, "--path"], stdout=subprocess.PIPE, stderr=subprocess.DEVNULL, text=True, check=False)
+    return said.stdout.strip() if said.returncode == 0 else None
 
 
 class Program:

@@ -49,8 +49,12 @@ class Result:
     def __len__(self) -> int:
         return len(self.rows)
 
+    def __bool__(self) -> bool:
+        """Always true: a result without rows is a result. `len(result)` is its number of rows."""
+        return True
+
     def to_dicts(self) -> list[dict[str, Value]]:
-        """A dictionary a row. Of two columns of one name, the last is in it."""
+        """A dictionary for each row. Of two columns of one name, the last is in it."""
         names = [column.name for column in self.columns]
         return [dict(zip(names, row, strict=True)) for row in self.rows]
 

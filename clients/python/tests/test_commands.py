@@ -4,7 +4,7 @@ from pathlib import Path
 
 import pytest
 
-from xcols import Column, Folder, Loaded, PassedOver
+from xcols import CannotRead, Column, Folder, Loaded, PassedOver
 
 BY_REGION = "SELECT region, COUNT(*) AS orders, SUM(q) AS pieces FROM sales JOIN store ON s = k GROUP BY region ORDER BY region"
 
@@ -112,4 +112,22 @@ def test_init_writes_a_catalogue(sales):
 
 
 def test_the_fragments_of_a_load(loaded):
-    assert loaded.fragments("SELECT COUNT(*) FROM sales") == (0, 1, 2)
+    assert loaded.fragments() == (0, 1, 2)
+
+
+def test_a_result_prints_as_a_table(sales):
+    result = sales.whole("SELECT t, SUM(q) AS pieces FROM sales GROUP BY t")
+    assert str(result) == "t     pieces\n----  ------\nNULL       4\na          3\nb       NULL"
+
+
+def test_a_result_without_rows_is_one(sales):
+    assert sales.whole("SELECT id FROM sales WHERE id > 9")
+
+
+def test_a_folder_names_itself(sales):
+    assert repr(sales) == f"Folder({sales.path!r})"
+
+
+def test_before_a_load_there_are_no_fragments(sales):
+    with pytest.raises(CannotRead, match="cut.xcl"):
+        sales.fragments()

@@ -73,6 +73,16 @@ def test_a_conflict(loaded, tmp_path):
     assert caught.value.fragments == (1,)
 
 
-def test_without_the_program_it_says_how_to_build_it(tmp_path):
-    with pytest.raises(NoProgram, match="builds it"):
+def test_without_the_program_it_says_how_to_get_one(tmp_path):
+    with pytest.raises(NoProgram, match="prove and build it"):
         Folder(tmp_path, program=tmp_path / "xcols")
+
+
+def test_a_refusal_says_where(sales):
+    with pytest.raises(Refusal) as caught:
+        sales.whole("SELECT FROM sales")
+    assert (caught.value.offset, caught.value.row, caught.value.column) == (7, None, None)
+    Path(sales.path, "store.csv").write_text("k,region\n10,north\nx,south\n")
+    with pytest.raises(Refusal) as caught:
+        sales.whole("SELECT COUNT(*) FROM sales JOIN store ON s = k")
+    assert (caught.value.line, caught.value.offset, caught.value.row, caught.value.column) == ("load 3 1 0", None, 1, 0)

@@ -1,6 +1,6 @@
 """What the program refuses, as exceptions.
 
-Every exception of this package is an `XcolsError`. Those that a line of the program stands behind have it in `line`.
+Every exception of this package is an `XcolsError`. Those that come from a line of the program have it in `line`.
 """
 
 from __future__ import annotations
@@ -30,7 +30,7 @@ class Refusal(XcolsError):
 
     word: the layer, as `"plan"`, `"sql"` or `"memory"`.
     number: the error code, or None where the line has none.
-    details: what stands behind it: offsets, rows, columns, paths.
+    details: what comes after it: offsets, rows, columns, paths.
     sentence: what it means and what to do, where the program can say so.
     """
 
@@ -39,6 +39,25 @@ class Refusal(XcolsError):
         self.word, self.number, self.details = _parts(line)
         self.sentence = sentence
         super().__init__(f"{line}: {sentence}" if sentence else line)
+
+    @property
+    def offset(self) -> int | None:
+        """The byte of the query at which SQL is refused, from 0, or None for another refusal."""
+        return self._number_of("sql", range(100), 0)
+
+    @property
+    def row(self) -> int | None:
+        """The row of a CSV file that a load refuses, from 0 after the header, or None."""
+        return self._number_of("load", range(100), 0)
+
+    @property
+    def column(self) -> int | None:
+        """The column in the catalogue, from 0, of a field that a load refuses, or None."""
+        return self._number_of("load", range(3, 7), 1)
+
+    def _number_of(self, word: str, numbers: range, at: int) -> int | None:
+        is_such = self.word == word and self.number in numbers and len(self.details) > at and self.details[at].isdigit()
+        return int(self.details[at]) if is_such else None
 
 
 class CannotRead(Refusal):
@@ -67,7 +86,7 @@ class ArithmeticFault(XcolsError):
 class Incomplete(XcolsError):
     """A gather has no report yet.
 
-    fragments: the numbers of the fragments that stand in its way.
+    fragments: the numbers of the fragments that are missing or in conflict.
     passed_over: the files that were passed over.
     """
 
@@ -87,7 +106,7 @@ class Conflict(Incomplete):
 
 
 def _parts(line: str) -> tuple[str, int | None, tuple[str, ...]]:
-    """Of a line's text behind `xcols: `, the word, the number and the details."""
+    """Of a line's text after `xcols: `, the word, the number and the details."""
     for head in ("cannot read ", "cannot write "):
         if line.startswith(head):
             return head.strip(), None, (line.removeprefix(head),)
@@ -98,7 +117,7 @@ def _parts(line: str) -> tuple[str, int | None, tuple[str, ...]]:
 
 
 def refusal_of(line: str, sentence: str = "") -> Refusal:
-    """The exception of a line's text behind `xcols: `."""
+    """The exception of a line's text after `xcols: `."""
     kinds = {"cannot read ": CannotRead, "cannot write ": CannotWrite}
     kind = next((kind for head, kind in kinds.items() if line.startswith(head)), Refusal)
     return kind(line, sentence)

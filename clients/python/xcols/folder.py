@@ -11,7 +11,7 @@ from concurrent.futures import ThreadPoolExecutor, as_completed
 from dataclasses import dataclass
 from pathlib import Path
 
-from xcols.errors import ArithmeticFault, Incomplete, Missing, UsageError, incomplete_of
+from xcols.errors import ArithmeticFault, Incomplete, UsageError, incomplete_of
 from xcols.program import Program, Ran, find_program
 from xcols.result import Column, Result, result_of
 
@@ -68,6 +68,9 @@ class Folder:
     def __init__(self, path: StrPath, program: StrPath | None = None) -> None:
         self.path = os.fspath(path)
         self._program = Program(find_program(program))
+
+    def __repr__(self) -> str:
+        return f"Folder({self.path!r})"
 
     def init(self, fact: str | None = None) -> str:
         """Writes a `catalog.txt` under which the folder's CSV files load, and gives what was chosen and why.
@@ -161,14 +164,15 @@ class Folder:
         said = next(line for line in self.explain(query).splitlines() if line.startswith(head))
         return tuple(Column(*column.split(" ")) for column in said.removeprefix(head).split(", "))  # type: ignore[arg-type]
 
-    def fragments(self, query: str) -> tuple[int, ...]:
-        """The numbers of the fragments that the tables were loaded in."""
-        try:
-            # An empty file is passed over, so that all are missing.
-            self.gather(query, [os.devnull])
-        except Missing as missing:
-            return missing.fragments
-        return ()
+    def fragments(self) -> tuple[int, ...]:
+        """The numbers of the fragments that the tables were loaded in. Raises CannotRead where they weren't: `load` comes first.
+
+        >>> folder.fragments()
+        (0, 1, 2)
+        """
+        said = re.search(r"^fragments (\d+)$", self.show("cut.xcl"), re.MULTILINE)
+        assert said is not None
+        return tuple(range(int(said[1])))
 
     def query(self, query: str, processes: int | None = None) -> Result:
         """Answers a query over the loaded tables by a process for each fragment, `processes` at once (as many as there are
@@ -189,7 +193,7 @@ class Folder:
         >>> for seen in folder.previews("SELECT COUNT(*) FROM sales", processes=4):
         ...     print(seen.answered, "of", seen.fragments, seen.result.rows)
         """
-        fragments = self.fragments(query)
+        fragments = self.fragments()
         columns = self.columns(query)
         with tempfile.TemporaryDirectory() as room, ThreadPoolExecutor(processes or os.cpu_count()) as pool:
             state = Path(room, "state.xgs")
@@ -206,7 +210,7 @@ class Folder:
         self, query: str, files: Iterable[StrPath], save: StrPath | None, journal: StrPath | None, *words: str
     ) -> Ran:
         options = [*_option("--save", save), *_option("--journal", journal), *words]
-        return self._program.run("gather", self.path, "--query", query, *options, *map(os.fspath, files))
+        return self._program.run("gather", self.path, "--query", query, *options, *[os.fspath(file) for file in files])
 
     def _report(self, query: str, ran: Ran) -> Result:
         passed_over = tuple(_passed_over(ran.err))

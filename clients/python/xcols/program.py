@@ -73,7 +73,9 @@ class Program:
         return ran
 
     def sentence(self, line: str) -> str:
-        """What `xcols refusal` says of a line, or nothing where it knows none."""
+        """What `xcols refusal` says of a line: what it means and what to do, or nothing where it knows none."""
         words = line.split(" ")[:2]
         done = subprocess.run([self.path, "refusal", *words], stdout=subprocess.PIPE, stderr=subprocess.DEVNULL, check=False)
-        return " ".join(done.stdout.decode().split()) if done.returncode == 0 else ""
+        heads = ("  means: ", "  what to do: ")
+        said = [row.removeprefix(head) for row in done.stdout.decode().splitlines() for head in heads if row.startswith(head)]
+        return ". ".join(said) if done.returncode == 0 else ""

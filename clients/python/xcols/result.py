@@ -53,6 +53,14 @@ class Result:
         """Always true: a result without rows is a result. `len(result)` is its number of rows."""
         return True
 
+    def __str__(self) -> str:
+        """A table with NULL as `NULL`, integers to the right and texts to the left."""
+        shown = [["NULL" if value is None else str(value) for value in row] for row in self.rows]
+        names = [column.name for column in self.columns]
+        widths = [max(len(row[at]) for row in [names, *shown]) for at in range(len(names))]
+        lines = [names, ["-" * width for width in widths], *shown]
+        return "\n".join("  ".join(map(_fitted, line, widths, self.columns)).rstrip() for line in lines)
+
     def to_dicts(self) -> list[dict[str, Value]]:
         """A dictionary for each row. Of two columns of one name, the last is in it."""
         names = [column.name for column in self.columns]
@@ -76,6 +84,10 @@ def result_of(text: str, columns: tuple[Column, ...], passed_over: tuple[PassedO
     next(records)
     rows = [tuple(_value(item, column) for item, column in zip(record, columns, strict=True)) for record in records]
     return Result(columns, rows, text, passed_over)
+
+
+def _fitted(text: str, width: int, column: Column) -> str:
+    return text.rjust(width) if column.type == "int" else text.ljust(width)
 
 
 def _value(item: str, column: Column) -> Value:

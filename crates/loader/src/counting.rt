@@ -17,7 +17,7 @@ use std::mem::drop;
 const BLOCK: usize = 65_536;
 
 /// The next bytes into a block, and how many there are; none only at the end.
-fn read_block<R: Read>(reader: &mut R, block: &mut [u8]) -> Result<usize, LoadFault>
+pub fn read_block<R: Read>(reader: &mut R, block: &mut [u8]) -> Result<usize, LoadFault>
     requires { 0 < length block.old }
     ensures length { length block.new ≡ length block.old }
     ensures within { IfOk result (λ n. n ≤ length block.new) }
@@ -32,7 +32,7 @@ fn read_block<R: Read>(reader: &mut R, block: &mut [u8]) -> Result<usize, LoadFa
 }
 
 /// The next byte, if there is one.
-fn next_byte<R: Read>(reader: &mut R) -> Result<Option<u8>, LoadFault>
+pub fn next_byte<R: Read>(reader: &mut R) -> Result<Option<u8>, LoadFault>
     ensures read { IfOk result (λ found. (bytes : List ℕ) → R.remaining reader.old ≡ Some bytes
         → MatchOption found (Reads (R.remaining reader.new) bytes [])
         (λ byte. Reads (R.remaining reader.new) bytes (byte ∷ []))) }

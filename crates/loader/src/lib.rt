@@ -18,8 +18,9 @@ mod rows;
 mod source;
 mod table;
 
-pub use counting::count_rows;
+pub use counting::{count_rows, next_byte, read_block};
 pub use dimension::{dimension_named, has_dim, load_dim, load_dimension};
 pub use fact::{FactReader, load_fact, open_fact};
 pub use fault::LoadFault;
+pub use record_state::RecordState;
 pub use source::{csv_reader, next_record};

@@ -1,0 +1,4 @@
+-- The lemmas of this crate.
+pub mod Fronts
+pub mod Passing
+pub mod Walking

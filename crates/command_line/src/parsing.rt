@@ -9,11 +9,14 @@ use crate::commands::{Command, GatherCommand, WorkCommand};
 use crate::parser::parser;
 use crate::parts::Parts;
 use crate::reading::parts_of;
+use crate::tool_parser::tools_parser;
 use crate::usage_fault::UsageFault;
 use clap::error::ErrorKind;
 use meaning::{MAX_FRAGMENTS, MAX_ROWS, Sequence, Text};
 use std::alloc::{AllocError, Global};
 use std::mem::drop;
+
+const HELP: &[&str] = &["--help"];
 
 /// The command that the words behind the program's name ask for. It is read off the words; where
 /// they ask for none, `clap` says why.
@@ -29,8 +32,8 @@ pub fn command(alloc: Global, words: &[&str]) -> Result<Command, UsageFault>
     }
 }
 
-// Why the words ask for no command.
-fn refusal(alloc: Global, words: &[&str]) -> Result<UsageFault, AllocError>
+/// Why the words ask for no command, and for no tool, as `clap` says it; the help, where they ask for it.
+pub fn refusal(alloc: Global, words: &[&str]) -> Result<UsageFault, AllocError>
     ensures { IfOk result IsUsage }
 {
     let mut parser = parser(alloc)?;
@@ -39,8 +42,18 @@ fn refusal(alloc: Global, words: &[&str]) -> Result<UsageFault, AllocError>
     Ok(refusal)
 }
 
-/// Why the parser refuses the words, or its help where they ask for it.
-pub fn refusal_by<'a>(parser: &mut clap::Command<'a>, words: &'a [&'a str]) -> UsageFault
+/// The list of the tools, as a refusal with the text of their help.
+pub fn list_of_tools(alloc: Global) -> Result<UsageFault, AllocError>
+    ensures { IfOk result IsUsage }
+{
+    let mut parser = tools_parser(alloc)?;
+    let list = refusal_by(&mut parser, HELP);
+    drop(parser);
+    Ok(list)
+}
+
+// Why the parser refuses the words, or its help where they ask for it.
+fn refusal_by<'a>(parser: &mut clap::Command<'a>, words: &'a [&'a str]) -> UsageFault
     ensures { IsUsage result }
 {
     match parser.try_get_matches_from_mut(words) {

@@ -1,5 +1,7 @@
 -- What a tool leaves.
-use Rattle.std.specs.Prelude.{◌≡◌, ◌≢◌, ◌⊎◌, ℕ, List, Option}
+use Rattle.std.specs.Prelude.{◌≡◌, ◌≢◌, ◌⊎◌, ◌++◌, ℕ, List, Option, codes}
+use Rattle.std.specs.Io.KnownBytes.{Appends}
+use Rattle.command_line.specs.declared.parser.TheConstants.{VERSION}
 use Rattle.explain.specs.Explaining.{IsExplained, IsUnexplained, PrintsPlan}
 use Rattle.folders.specs.Folder.{AreHeld, Change, Holds, WritesOne, catalog_path}
 use Rattle.folders.specs.Refused.{IsAskedFor}
@@ -14,7 +16,7 @@ use Rattle.show.specs.Shown.{HoldsFile, IsWhole, PrintsPartsOf}
 use Rattle.tools.specs.Explained.{PrintsEntry}
 use Rattle.tools.specs.declared.words.ShowWords.{ShowWords}
 use Rattle.tools.specs.declared.words.Tool.{Tool}
-use Rattle.tools.specs.declared.words.Tool.TheVariants.{Explain, Init, Refusal, Show}
+use Rattle.tools.specs.declared.words.Tool.TheVariants.{Explain, Init, Refusal, Show, Version}
 
 -- a tool ends with 0 or 1
 abbrev pub IsStatus : ℕ → Type 0
@@ -46,6 +48,7 @@ LeavesFiles holds lists (Init words) status before after = MakesCatalog holds li
 LeavesFiles holds lists (Refusal words) status before after = after ≡ before
 LeavesFiles holds lists (Explain words) status before after = ExplainsPlan holds words.folder words.query status before after
 LeavesFiles holds lists (Show words) status before after = ShowsFile holds words.path status before after
+LeavesFiles holds lists Version status before after = after ≡ before
 
 -- what was chosen for the catalogue that was written is said
 abbrev pub SaysCatalog : Holds → List ℕ → Option (List ℕ) → Option (List Change) → Option (List Change) → Option (List ℕ) → Option (List ℕ) → Type 0
@@ -58,6 +61,7 @@ LeavesErrors holds (Init words) wrote_before wrote_after before after = SaysCata
 LeavesErrors holds (Refusal words) wrote_before wrote_after before after = after ≡ before
 LeavesErrors holds (Explain words) wrote_before wrote_after before after = after ≡ before
 LeavesErrors holds (Show words) wrote_before wrote_after before after = after ≡ before
+LeavesErrors holds Version wrote_before wrote_after before after = after ≡ before
 
 -- The query has no plan for this reason, and nothing was printed unless standard output failed. A file that can't be read was asked
 -- for.
@@ -79,9 +83,17 @@ abbrev pub PrintsFile : Holds → ShowWords → ℕ → Option (List ℕ) → Op
 PrintsFile holds words status before after =
     ((after ≡ before) ⊎ HoldsFile holds words.path) × (status ≡ 0 → PrintsPartsOf holds words.path (options_of words) before after)
 
+-- the line of the version
+abbrev pub version_line : List ℕ
+version_line = codes "xcols " ++ VERSION.now ++ codes "\n"
+
+abbrev pub PrintsVersion : ℕ → Option (List ℕ) → Option (List ℕ) → Type 0
+PrintsVersion status before after = status ≡ 0 → Appends before after version_line
+
 -- what a tool leaves of standard output: nothing is printed while a catalogue is made, nor where a query is refused
 abbrev pub LeavesOutput : Holds → (List ℕ → Type 0) → Tool → ℕ → Option (List ℕ) → Option (List ℕ) → Type 0
 LeavesOutput holds asks (Init words) status before after = after ≡ before
 LeavesOutput holds asks (Refusal words) status before after = PrintsEntry words status before after
 LeavesOutput holds asks (Explain words) status before after = PrintsExplanation holds asks words.folder words.query status before after
 LeavesOutput holds asks (Show words) status before after = PrintsFile holds words status before after
+LeavesOutput holds asks Version status before after = PrintsVersion status before after

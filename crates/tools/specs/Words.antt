@@ -10,7 +10,17 @@ abbrev pub begins_with_tool : List (List ℕ) → Bool
 begins_with_tool [] = false
 begins_with_tool (word ∷ words) = is_tool word
 
--- a tool, or help on one
+-- the version is asked for by one word alone
+abbrev pub asks_version : List (List ℕ) → Bool
+asks_version [] = false
+asks_version (word ∷ []) = bytes_eq word (codes "--version") || bytes_eq word (codes "-V")
+asks_version (word ∷ next ∷ words) = false
+
+-- a tool by its name, or help on one
+abbrev pub names_tool : List (List ℕ) → Bool
+names_tool [] = false
+names_tool (word ∷ words) = if bytes_eq word (codes "help") then begins_with_tool words else is_tool word
+
+-- a tool, help on one, or the version
 abbrev pub asks_tool : List (List ℕ) → Bool
-asks_tool [] = false
-asks_tool (word ∷ words) = if bytes_eq word (codes "help") then begins_with_tool words else is_tool word
+asks_tool words = asks_version words || names_tool words

@@ -1,18 +1,15 @@
 //! The tool that words ask for.
-ghost use Rattle.std.specs.Prelude.{◌≡◌, None, Ok, IfErr, IfOk, IfSome, IsSome, codes, false, map, true};
+ghost use Rattle.std.specs.Prelude.{◌≡◌, ◌≢◌, None, Ok, Some, IfErr, IfOk, IfSome, IsSome, codes, false, map, true};
 ghost use Rattle.command_line.specs.Steps.{flags_of, given_of, plain_of};
 ghost use Rattle.command_line.specs.Usage.{IsUsage};
-ghost use Rattle.tools.specs.Said.{AreWordsOf, IsMadeOf, IsOf, IsReadOff, TakesWords};
-ghost use Rattle.tools.specs.Words.{asks_tool, begins_with_tool, is_tool};
+ghost use Rattle.tools.specs.Said.{AreNamed, AreWordsOf, IsMadeOf, IsOf, IsReadOff, TakesWords};
+ghost use Rattle.tools.specs.declared.words.Tool.TheVariants.{Version};
+ghost use Rattle.tools.specs.Words.{asks_tool, asks_version, begins_with_tool, is_tool, names_tool};
 
-use crate::parser::parser;
 use crate::words::{ExplainWords, InitWords, ShowWords, Tool};
-use command_line::{Parts, UsageFault, parts_of, refusal_by, text_if_any, texts};
+use command_line::{Parts, UsageFault, list_of_tools, parts_of, text_if_any, texts};
 use meaning::Text;
 use std::alloc::{AllocError, Global};
-use std::mem::drop;
-
-const HELP: &[&str] = &["--help"];
 
 fn is_tool(word: &str) -> bool
     ensures { result ≡ is_tool word.now }
@@ -29,9 +26,19 @@ fn begins_with_tool(words: &[&str]) -> bool
     is_tool(word)
 }
 
+// Whether they ask for the version.
+fn asks_version(words: &[&str]) -> bool
+    ensures { result ≡ asks_version (map (λ w. w.now) words.now) }
+{
+    match words {
+        [word] => *word == "--version" || *word == "-V",
+        _ => false,
+    }
+}
+
 // Whether they begin as those of a tool, or ask for help on one.
-fn asks_tool(words: &[&str]) -> bool
-    ensures { result ≡ asks_tool (map (λ w. w.now) words.now) }
+fn names_tool(words: &[&str]) -> bool
+    ensures { result ≡ names_tool (map (λ w. w.now) words.now) }
 {
     let Some((word, others)) = words.split_first() else {
         return false;
@@ -42,9 +49,9 @@ fn asks_tool(words: &[&str]) -> bool
     is_tool(word)
 }
 
-/// The tool that the words behind the program's name ask for; none where they don't begin as those
-/// of a tool, and may be another command. It is read off the words; where they ask for none, `clap`
-/// says why.
+/// The tool that the words behind the program's name ask for, or the version; none where they don't
+/// begin as those of a tool, and may be another command. It is read off the words; where they ask for
+/// none, `clap` says why.
 pub fn asked(alloc: Global, words: &[&str]) -> Result<Option<Tool>, UsageFault>
     ensures none { asks_tool (map (λ w. w.now) words.now) ≡ false → result ≡ Ok None }
     ensures some { asks_tool (map (λ w. w.now) words.now) ≡ true
@@ -52,9 +59,16 @@ pub fn asked(alloc: Global, words: &[&str]) -> Result<Option<Tool>, UsageFault>
     ensures said { IfOk result
         (λ found. IfSome found (AreWordsOf (map (λ w. w.now) words.now))) }
     ensures taken { TakesWords (map (λ w. w.now) words.now) result }
+    ensures version { asks_version (map (λ w. w.now) words.now) ≡ true
+        → result ≡ Ok (Some Version) }
+    ensures only { asks_version (map (λ w. w.now) words.now) ≡ false
+        → result ≢ Ok (Some Version) }
     ensures worded { IfErr result IsUsage }
 {
-    if !asks_tool(words) {
+    if asks_version(words) {
+        return Ok(Some(Tool::Version));
+    }
+    if !names_tool(words) {
         return Ok(None);
     }
     match said(alloc, words)? {
@@ -67,14 +81,10 @@ pub fn asked(alloc: Global, words: &[&str]) -> Result<Option<Tool>, UsageFault>
 fn refusal(alloc: Global, words: &[&str]) -> Result<UsageFault, AllocError>
     ensures { IfOk result IsUsage }
 {
-    let mut parser = parser(alloc)?;
-    let refusal = if asks_list(words) {
-        refusal_by(&mut parser, HELP)
-    } else {
-        refusal_by(&mut parser, words)
-    };
-    drop(parser);
-    Ok(refusal)
+    if asks_list(words) {
+        return list_of_tools(alloc);
+    }
+    command_line::refusal(alloc, words)
 }
 
 fn asks_list(words: &[&str]) -> bool {
@@ -85,7 +95,7 @@ fn asks_list(words: &[&str]) -> bool {
 }
 
 fn said(alloc: Global, words: &[&str]) -> Result<Option<Tool>, AllocError>
-    ensures said { IfOk result (λ o. IfSome o (AreWordsOf (map (λ w. w.now) words.now))) }
+    ensures said { IfOk result (λ o. IfSome o (AreNamed (map (λ w. w.now) words.now))) }
     ensures only { IfOk result (IsReadOff (map (λ w. w.now) words.now)) }
 {
     let Some((name, words)) = words.split_first() else {

@@ -3,7 +3,6 @@
 
 mod asking;
 mod explaining;
-mod parser;
 mod running;
 mod words;
 

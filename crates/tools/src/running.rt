@@ -1,10 +1,11 @@
 //! Runs a tool and gives its exit status.
 ghost use Rattle.std.specs.Prelude.{◌≡◌, option_map};
 ghost use Rattle.tools.specs.Explained.{PrintsEntry};
-ghost use Rattle.tools.specs.Running.{ExplainsPlan, IsStatus, LeavesErrors, LeavesFiles, LeavesOutput, MakesCatalog, PrintsExplanation, PrintsFile, SaysCatalog, ShowsFile};
+ghost use Rattle.tools.specs.Running.{ExplainsPlan, IsStatus, LeavesErrors, LeavesFiles, LeavesOutput, MakesCatalog, PrintsExplanation, PrintsFile, PrintsVersion, SaysCatalog, ShowsFile};
 
 use crate::explaining::entry_of;
 use crate::words::{ExplainWords, InitWords, ShowWords, Tool};
+use command_line::VERSION;
 use explain::explain;
 use folders::Folder;
 use init::{InitFault, Listing, make_catalog};
@@ -80,6 +81,20 @@ fn run_refusal<O: Write, E: Write>(alloc: Global, words: &[Text], out: &mut O, e
     }
 }
 
+fn run_version<O: Write, E: Write>(out: &mut O, err: &mut E) -> u8
+    ensures status { IsStatus result }
+    ensures silent { result ≡ 0 → E.contents err.new ≡ E.contents err.old }
+    ensures output { PrintsVersion result (O.contents out.old) (O.contents out.new) }
+{
+    match writeln!(out, "xcols {VERSION}") {
+        Ok(()) => 0,
+        Err(_) => {
+            let _ = writeln!(err, "xcols: cannot write standard output");
+            1
+        }
+    }
+}
+
 fn run_explain<F: Folder, O: Write, E: Write>(
     alloc: Global,
     words: &ExplainWords,
@@ -142,5 +157,6 @@ pub fn run<F: Folder + Listing, O: Write, E: Write>(
         Tool::Refusal(words) => run_refusal(alloc, words.as_slice(), out, err),
         Tool::Explain(words) => run_explain(alloc, words, folder, out, err),
         Tool::Show(words) => run_show(alloc, words, folder, out, err),
+        Tool::Version => run_version(out, err),
     }
 }

@@ -12,6 +12,8 @@ pub enum Tool {
     Explain(ExplainWords),
     /// To print what stands in a file.
     Show(ShowWords),
+    /// To print the program's version.
+    Version,
 }
 
 /// To write a catalogue for a folder's CSV files.

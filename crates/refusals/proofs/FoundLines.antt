@@ -121,3 +121,7 @@ of_three word entry number first low high below has other last = ⊎_elim
 -- the line of a text that is known
 pub of_text : (words known : List ℕ) (entry : Entry) → words ≡ known → has_line known entry.lines.now ≡ true → IsOf words entry
 of_text words known entry is has = subst (λ ws. IsOf ws entry) (sym is) (of_line known entry has)
+
+-- the line of an entry whose lines are known
+pub of_lines : (words known lines : List ℕ) (entry : Entry) → words ≡ known → entry.lines.now ≡ lines → has_line known lines ≡ true → IsOf words entry
+of_lines words known lines entry is same has = of_text words known entry is (subst (λ ls. has_line known ls ≡ true) (sym same) has)

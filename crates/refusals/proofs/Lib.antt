@@ -1,2 +1,3 @@
 -- The lemmas of this crate.
 pub mod FoundLines
+pub mod Sentences

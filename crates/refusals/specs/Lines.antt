@@ -11,10 +11,11 @@ abbrev pub is_name : List ℕ → Bool
 is_name [] = false
 is_name (letter ∷ rest) = nat_le 65 letter && nat_le letter 90
 
--- behind the words of a line: nothing, such a name, or the comma in front of the next line
+-- behind the words of a line: nothing, such a name, the comma in front of the next line, or a colon, which may be left out of the
+-- words
 abbrev pub may_follow : List ℕ → Bool
 may_follow [] = true
-may_follow (byte ∷ rest) = byte == 44 || (byte == 32 && is_name rest)
+may_follow (byte ∷ rest) = (byte == 44 || byte == 58) || (byte == 32 && is_name rest)
 
 -- in front of a line: nothing, or other lines
 abbrev pub MayPrecede : List ℕ → Type 0

@@ -51,6 +51,23 @@ impl Layer {
         }
     }
 
+    /// The word that stands in front of its error codes.
+    pub fn word(self) -> &'static str
+        ensures { result.now ≡ word_of self }
+    {
+        match self {
+            Layer::Catalog => "catalog",
+            Layer::Cut => "cut",
+            Layer::Sql => "sql",
+            Layer::Plan => "plan",
+            Layer::Load => "load",
+            Layer::File => "file",
+            Layer::Work => "work",
+            Layer::Journal => "journal",
+            Layer::Gather => "gather",
+        }
+    }
+
     /// Its word, and its error codes for people.
     pub fn codes(self) -> &'static str
         ensures { result.now ≡ span_text self }

@@ -1,9 +1,9 @@
 //! The entry of a refusal.
-ghost use Rattle.std.specs.Prelude.{◌≡◌, IfSome, OnOk, flat_map, is_some};
+ghost use Rattle.std.specs.Prelude.{◌≡◌, ℕ, List, IfSome, OnOk, flat_map, is_some};
 ghost use Rattle.std.specs.Io.KnownBytes.{Appends};
 ghost use Rattle.refusals.specs.Codes.{has_code, is_known, word_of};
 ghost use Rattle.refusals.specs.Lines.{IsOfCode};
-ghost use Rattle.refusals.specs.Texts.{known_text, layer_line};
+ghost use Rattle.refusals.specs.Texts.{IsSentence, PrintsCodes, known_text, layer_line};
 
 use crate::entries::Entry;
 use crate::layers::Layer;
@@ -12,6 +12,9 @@ use crate::table::{
 };
 use std::io;
 use std::io::Write;
+
+/// One more than the greatest error code of any layer.
+const CODES: u8 = 17;
 
 /// The entry of an error code of a layer.
 pub fn entry_of(layer: Layer, number: u8) -> Option<Entry>
@@ -65,6 +68,27 @@ pub fn print_known<W: Write>(out: &mut W) -> io::Result<()>
 {
     print_layers(&Layer::ALL, out)?;
     out.write_all(
-        b"  memory, cannot read, cannot write,\n  cannot write standard error, cannot write standard output\n",
+        b"  memory, cannot read, cannot write,\n  cannot write standard error, cannot write standard output,\n  usage, arithmetic, missing, conflict\n",
     )
+}
+
+fn print_code<W: Write>(layer: Layer, number: u8, out: &mut W) -> io::Result<()>
+    ensures { OnOk result ((text : List ℕ) × IsSentence layer number text
+        × Appends (W.contents out.old) (W.contents out.new) text) }
+{
+    let Some(entry) = entry_of(layer, number) else {
+        return Ok(());
+    };
+    let (word, meaning) = (layer.word(), entry.meaning);
+    writeln!(out, "  {word} {number}: {meaning}")
+}
+
+/// Prints what each error code of a layer means, one to a line.
+pub fn print_codes<W: Write>(layer: Layer, out: &mut W) -> io::Result<()>
+    ensures { OnOk result (PrintsCodes layer (W.contents out.old) (W.contents out.new)) }
+{
+    for number in 0..CODES {
+        print_code(layer, number, out)?;
+    }
+    Ok(())
 }

@@ -2,13 +2,25 @@
 ghost use Rattle.std.specs.Prelude.{◌≡◌, ◌==◌, ◌||◌, IfSome, codes, is_some};
 ghost use Rattle.refusals.specs.Codes.{is_from_to};
 ghost use Rattle.refusals.specs.Lines.{IsOf, IsOfCode};
-ghost use Rattle.refusals.specs.Texts.{is_plain};
+ghost use Rattle.refusals.specs.Texts.{is_of_command, is_plain};
 
 use crate::entries::Entry;
+use crate::reports::of_report;
 
 /// A line without an error code, by its words.
 pub fn of_words(words: &str) -> Option<Entry>
     ensures known { is_some result ≡ is_plain words.now }
+    ensures line { IfSome result (IsOf words.now) }
+{
+    if let Some(entry) = of_command(words) {
+        return Some(entry);
+    }
+    of_report(words)
+}
+
+/// A line by which a command is refused, by its words.
+fn of_command(words: &str) -> Option<Entry>
+    ensures known { is_some result ≡ is_of_command words.now }
     ensures line { IfSome result (IsOf words.now) }
 {
     match words {
@@ -16,13 +28,13 @@ pub fn of_words(words: &str) -> Option<Entry>
             lines: "memory",
             meaning: "memory ran out",
             smallest_input: "",
-            advice: "free memory, or load shorter fragments",
+            advice: "free memory, or load shorter fragments: a smaller `--rows`; in place of `whole`, use `load`, `work` and `gather`",
         }),
         "cannot read" => Some(Entry {
             lines: "cannot read PATH",
             meaning: "the file isn't there or can't be read; a journal can't be made or opened, or another run has it open",
             smallest_input: "a folder without `catalog.txt`, or without a table's CSV file",
-            advice: "check the folder's name and its files",
+            advice: "`cut.xcl`: load first (`xcols load`); `NAME.K.xcf`: K is below the number of fragments that `load` printed; `catalog.txt`: `xcols init DIR` writes one; else check the name of the folder and of the file",
         }),
         "cannot write" => Some(Entry {
             lines: "cannot write PATH",
@@ -34,15 +46,28 @@ pub fn of_words(words: &str) -> Option<Entry>
             lines: "cannot write standard error",
             meaning: "standard error failed, on which a file that is passed over is named",
             smallest_input: "a closed pipe",
-            advice: "",
+            advice: "send it to a file: `2>FILE`",
         }),
         "cannot write standard output" => Some(Entry {
             lines: "cannot write standard output",
             meaning: "standard output failed",
             smallest_input: "a closed pipe",
-            advice: "",
+            advice: "make room on its disk; where a program as `head` reads only the first lines, nothing is wrong",
         }),
+        "usage" => Some(usage()),
+        "error:" => Some(usage()),
         _ => None,
+    }
+}
+
+fn usage() -> Entry
+    ensures { result.lines.now ≡ codes "usage, error: TEXT" }
+{
+    Entry {
+        lines: "usage, error: TEXT",
+        meaning: "the words after `xcols` are no command: a word is missing, unknown or there twice, or a number is out of its range; the status is 2",
+        smallest_input: "`xcols whole shop`",
+        advice: "`xcols --help` lists the commands, and `xcols COMMAND --help` the words of one",
     }
 }
 
@@ -55,37 +80,37 @@ pub fn of_catalog(number: u8) -> Option<Entry>
             lines: "catalog 1",
             meaning: "the catalogue isn't UTF-8",
             smallest_input: "a byte `FF`",
-            advice: "save it as UTF-8",
+            advice: "save `catalog.txt` as UTF-8",
         }),
         2 => Some(Entry {
             lines: "catalog 2 LINE",
             meaning: "the line has no known form, or a name of another form",
             smallest_input: "`column v int`",
-            advice: "write `fact N`, `dim N key C` or `col N TYPE [null]`",
+            advice: "write `fact N`, `dim N key C` or `col N TYPE [null]`; TYPE is `int` or `text`; names are of lower-case letters, digits and underscores, and no word of SQL",
         }),
         3 => Some(Entry {
             lines: "catalog 3 LINE",
             meaning: "the line declares a name for the second time",
             smallest_input: "`col v int` twice",
-            advice: "rename one",
+            advice: "rename or remove one of the two",
         }),
         4 => Some(Entry {
             lines: "catalog 4",
             meaning: "not just one fact table",
             smallest_input: "no line `fact N`",
-            advice: "declare one",
+            advice: "declare the largest table by `fact N`, and each other by `dim N key C`",
         }),
         5 => Some(Entry {
             lines: "catalog 5",
             meaning: "a dimension's key column is missing, or may be NULL",
             smallest_input: "`dim d key k` without a column `k`",
-            advice: "declare it without `null`",
+            advice: "declare the key's column under its `dim` line, without `null`",
         }),
         6 => Some(Entry {
             lines: "catalog 6",
             meaning: "a name over 64 bytes, a table with no column or over 64, or over 16 dimensions",
             smallest_input: "`fact n` alone",
-            advice: "stay within the limits",
+            advice: "shorten the name, or leave tables or columns out of the catalogue and the CSV files",
         }),
         _ => None,
     }
@@ -100,13 +125,13 @@ pub fn of_cut(number: u8) -> Option<Entry>
             lines: "cut 1, cut 3",
             meaning: "no fragment; a fragment of over 1,048,576 rows",
             smallest_input: "none: an even cut has neither",
-            advice: "",
+            advice: "nothing: no command makes such a cut",
         }),
         2 => Some(Entry {
             lines: "cut 2",
             meaning: "over 4,096 fragments",
             smallest_input: "4,097 rows with `--rows 1`",
-            advice: "a greater `--rows`",
+            advice: "a greater `--rows`: at least the fact's rows divided by 4,096",
         }),
         _ => None,
     }
@@ -122,25 +147,25 @@ fn of_tokens(number: u8) -> Option<Entry>
             lines: "sql 1",
             meaning: "the query isn't UTF-8",
             smallest_input: "none: such a word is a usage fault",
-            advice: "",
+            advice: "write the query as UTF-8",
         }),
         2 => Some(Entry {
             lines: "sql 2 OFFSET",
-            meaning: "a character that no token has",
+            meaning: "a character that xcols' SQL doesn't use",
             smallest_input: "`SELECT #`",
-            advice: "",
+            advice: "remove it; a text is in single quotes, a name in none",
         }),
         3 => Some(Entry {
             lines: "sql 3 OFFSET",
             meaning: "a text isn't closed; the offset is that of its opening quote",
             smallest_input: "`SELECT 'a`",
-            advice: "close it",
+            advice: "close it by `'`; a quote in a text is written twice",
         }),
         4 => Some(Entry {
             lines: "sql 4 OFFSET",
             meaning: "an integer out of range",
             smallest_input: "`SELECT 9223372036854775808`",
-            advice: "",
+            advice: "write an integer of 64 bits, -9223372036854775808 to 9223372036854775807, or a text in quotes",
         }),
         _ => None,
     }
@@ -154,27 +179,27 @@ fn of_grammar(number: u8) -> Option<Entry>
     match number {
         5 => Some(Entry {
             lines: "sql 5 OFFSET",
-            meaning: "a token that isn't expected there",
+            meaning: "this word or sign can't come here",
             smallest_input: "`SELECT FROM n`",
-            advice: "",
+            advice: "there is no `SELECT *`, no decimal and no subquery, and no function but COUNT, SUM, MIN, MAX, AVG and COALESCE; `xcols explain DIR --query Q` shows the place, and often what to write",
         }),
         6 => Some(Entry {
             lines: "sql 6",
             meaning: "a tree deeper than 128, or more than 256 brackets, CASEs, NOTs and minus signs open at once",
             smallest_input: "257 brackets round a column",
-            advice: "",
+            advice: "fewer brackets; in place of a long chain of OR, `IN (..)`",
         }),
         7 => Some(Entry {
             lines: "sql 7",
             meaning: "the query, or its canonical text, has over 65,535 bytes",
             smallest_input: "a long comment",
-            advice: "",
+            advice: "shorten it: a query in several parts, or a dimension in place of a long IN list",
         }),
         8 => Some(Entry {
             lines: "sql 8 OFFSET WORD",
             meaning: "a part of SQL that is left out",
             smallest_input: "`SELECT ALL v FROM n`",
-            advice: "",
+            advice: "leave it out, or write it otherwise; `xcols explain DIR --query Q` says how",
         }),
         _ => None,
     }
@@ -200,19 +225,19 @@ fn of_names(number: u8) -> Option<Entry>
             lines: "plan 1",
             meaning: "a table that the catalogue doesn't have",
             smallest_input: "`SELECT COUNT(*) FROM m`",
-            advice: "",
+            advice: "use a name of `catalog.txt`; `xcols explain DIR --query Q` shows the name, and near ones",
         }),
         2 => Some(Entry {
             lines: "plan 2",
             meaning: "a column that no table of FROM has",
             smallest_input: "`SELECT SUM(w) FROM n`",
-            advice: "",
+            advice: "use a column of these tables, or add its table to FROM; `xcols explain DIR --query Q` shows the name, and near ones",
         }),
         3 => Some(Entry {
             lines: "plan 3",
             meaning: "a name that refers to several things: a column of two tables, an alias twice, two headers in ORDER BY",
             smallest_input: "`SELECT v AS a, v AS a FROM n ORDER BY a`",
-            advice: "give the column's table, or another alias",
+            advice: "put the table's name before the column's, as `n.v`, or take another alias; `xcols explain DIR --query Q` shows the name",
         }),
         _ => None,
     }
@@ -226,27 +251,27 @@ fn of_joins(number: u8) -> Option<Entry>
     match number {
         4 => Some(Entry {
             lines: "plan 4",
-            meaning: "types that don't fit, or a truth where a value belongs",
+            meaning: "a text where an integer belongs or the reverse, or a condition where a value belongs",
             smallest_input: "SUM of a text column",
-            advice: "",
+            advice: "compare a text with a text in quotes; SUM, AVG and arithmetic take integers; a column's type is in `catalog.txt`; `xcols explain DIR --query Q` often shows the column",
         }),
         5 => Some(Entry {
             lines: "plan 5",
             meaning: "a dimension without an equality of its key with a column of the fact",
             smallest_input: "`SELECT v FROM n, d`",
-            advice: "join it `ON v = k`",
+            advice: "join the dimension by the key that `catalog.txt` gives it: `ON v = d.k`, v a column of the fact; or change the key there; `xcols explain DIR --query Q` shows the key",
         }),
         6 => Some(Entry {
             lines: "plan 6",
             meaning: "two such equalities for one dimension",
             smallest_input: "`ON v = k AND k = v`",
-            advice: "",
+            advice: "keep one, and compare the fact's columns in place of the other: for `v = k AND w = k` write `v = k AND v = w`",
         }),
         7 => Some(Entry {
             lines: "plan 7",
             meaning: "the fact table isn't named just once",
             smallest_input: "`SELECT COUNT(*) FROM d`",
-            advice: "",
+            advice: "name the fact table of `catalog.txt` once in FROM; for a query of a dimension alone, a folder whose catalogue declares it as the fact",
         }),
         _ => None,
     }
@@ -262,25 +287,25 @@ fn of_groups(number: u8) -> Option<Entry>
             lines: "plan 8",
             meaning: "a column that isn't grouped, in a query with groups",
             smallest_input: "`SELECT v, COUNT(*) FROM n`",
-            advice: "group by it",
+            advice: "add the column to GROUP BY, or put it into MIN or MAX; `xcols explain DIR --query Q` shows the column",
         }),
         9 => Some(Entry {
             lines: "plan 9",
             meaning: "an aggregate in WHERE, ON, GROUP BY or inside another",
             smallest_input: "`SELECT v FROM n WHERE COUNT(*) > 1`",
-            advice: "HAVING",
+            advice: "test an aggregate in HAVING; in WHERE test columns",
         }),
         10 => Some(Entry {
             lines: "plan 10",
             meaning: "a position in GROUP BY; in ORDER BY a position without an item, or a name that no item has",
             smallest_input: "`SELECT v FROM n ORDER BY 2`",
-            advice: "",
+            advice: "GROUP BY takes columns and expressions; ORDER BY takes the name of an item (`AS total`) or its place, from 1: add what it is to be ordered by to SELECT; `xcols explain DIR --query Q` shows it and the items' names",
         }),
         11 => Some(Entry {
             lines: "plan 11",
             meaning: "over 16 joins, 64 keys or 64 aggregates",
             smallest_input: "",
-            advice: "",
+            advice: "ask for fewer aggregates at once, in two queries",
         }),
         _ => None,
     }
@@ -296,7 +321,7 @@ fn of_left_joins(number: u8) -> Option<Entry>
             lines: "plan 12",
             meaning: "the ON of a LEFT JOIN isn't just one equality of its dimension's key with a column of the fact",
             smallest_input: "`SELECT v FROM n LEFT JOIN d ON v > k`",
-            advice: "join it `ON v = k`, and put other conditions behind WHERE",
+            advice: "join it `ON v = k`, and put other conditions after WHERE",
         }),
         13 => Some(Entry {
             lines: "plan 13",
@@ -334,19 +359,19 @@ fn of_records(number: u8) -> Option<Entry>
             lines: "load 1",
             meaning: "the header doesn't have each declared column once",
             smallest_input: "`w` for `v`",
-            advice: "mend the header",
+            advice: "make the CSV file's first line the names of `catalog.txt`; `xcols check DIR` says which file and name",
         }),
         2 => Some(Entry {
             lines: "load 2 ROW",
             meaning: "the row doesn't have a field for each column",
             smallest_input: "`2,3` in a table of one column",
-            advice: "",
+            advice: "`xcols check DIR` says which file and line; a comma or quote in a field has to be quoted",
         }),
         3 => Some(Entry {
             lines: "load 3 ROW COLUMN",
             meaning: "not an integer of 64 bits",
             smallest_input: "`x`",
-            advice: "",
+            advice: "correct the field, or declare the column `text`; `xcols check DIR` shows file, line and field",
         }),
         _ => None,
     }
@@ -362,19 +387,19 @@ fn of_values(number: u8) -> Option<Entry>
             lines: "load 4 ROW COLUMN",
             meaning: "NULL in a column without `null`",
             smallest_input: "`\\N`",
-            advice: "declare the column `null`",
+            advice: "declare the column `null`, or fill the field; `xcols check DIR` shows file and line",
         }),
         5 => Some(Entry {
             lines: "load 5 ROW COLUMN",
             meaning: "a text of over 65,535 bytes",
             smallest_input: "65,536 letters",
-            advice: "",
+            advice: "shorten it; `xcols check DIR` shows file and line: often a quote isn't closed",
         }),
         6 => Some(Entry {
             lines: "load 6 ROW COLUMN",
             meaning: "not UTF-8",
             smallest_input: "a byte `FF`",
-            advice: "save it as UTF-8",
+            advice: "save the file as UTF-8, as by `iconv -f latin1 -t utf-8`; `xcols check DIR` shows file and line",
         }),
         _ => None,
     }
@@ -390,19 +415,19 @@ fn of_rows(number: u8) -> Option<Entry>
             lines: "load 7 ROW",
             meaning: "the row has the key of an earlier row",
             smallest_input: "the key 1 twice",
-            advice: "",
+            advice: "remove the row, or declare another key in `catalog.txt`; `xcols check DIR` shows file and line",
         }),
         8 => Some(Entry {
             lines: "load 8",
             meaning: "a dimension of over 1,048,576 rows, or a fact's file that grew while it was loaded",
             smallest_input: "",
-            advice: "",
+            advice: "make the larger table the fact, in `catalog.txt`; write no file while it is loaded; `xcols check DIR` says which file",
         }),
         9 => Some(Entry {
             lines: "load 9",
             meaning: "fewer rows than the cut has",
             smallest_input: "none: the rows are counted first, so the file got shorter while it was loaded",
-            advice: "load again",
+            advice: "load again, and write no file while it is loaded; then `xcols check DIR`",
         }),
         _ => None,
     }
@@ -434,7 +459,7 @@ pub fn of_file(number: u8) -> Option<Entry>
         }),
         2 | 3 | 4 => Some(Entry {
             lines: "file 2, file 3, file 4",
-            meaning: "it ends too early; bytes stand behind its end; its seal isn't that of its bytes",
+            meaning: "it ends too early; there are bytes after its end; its seal isn't that of its bytes",
             smallest_input: "a file that was cut short, lengthened or damaged",
             advice: "load again",
         }),
@@ -457,7 +482,7 @@ pub fn of_work(number: u8) -> Option<Entry>
             lines: "work 1",
             meaning: "the file isn't that of this fragment or dimension, of this load",
             smallest_input: "another load's file under the name",
-            advice: "load again",
+            advice: "load again, or copy all files of one load together",
         }),
         2 => Some(Entry {
             lines: "work 2",
@@ -469,13 +494,13 @@ pub fn of_work(number: u8) -> Option<Entry>
             lines: "work 3 N, work 3 5 GROUP COLUMN",
             meaning: "the fragment's or a dimension's file is damaged: N is 1 to 4 as in the lines of `file`, 6 for a header or numbers of rows that don't fit, 7 over a limit; 5 where the block of this column in this row group is damaged",
             smallest_input: "a file that was cut short; a byte that changed",
-            advice: "load again",
+            advice: "`xcols show FILE` says where; copy the file again, or load again",
         }),
         4 => Some(Entry {
             lines: "work 4",
             meaning: "a vector's length isn't from 1 to 4,096",
             smallest_input: "none: such a length is a usage fault",
-            advice: "",
+            advice: "nothing: `--vector` takes no such length",
         }),
         5 => Some(Entry {
             lines: "work 5",
@@ -508,7 +533,7 @@ pub fn of_journal(number: u8) -> Option<Entry>
             lines: "journal 15",
             meaning: "the disk failed before",
             smallest_input: "none: the program ends at the first failure",
-            advice: "",
+            advice: "make room, check the disk, and gather again",
         }),
         16 => Some(Entry {
             lines: "journal 16",
@@ -529,31 +554,31 @@ pub fn of_gather(number: u8) -> Option<Entry>
             lines: "gather 1 PATH",
             meaning: "the file begins neither as an answer nor as a state; with `--journal`, it is no answer, as a state is none",
             smallest_input: "",
-            advice: "",
+            advice: "give files that `work --out` or `gather --save` wrote; with `--journal` only those of `work`",
         }),
         2 | 3 | 4 => Some(Entry {
             lines: "gather 2 PATH, gather 3 PATH, gather 4 PATH",
-            meaning: "it ends too early; bytes stand behind its end; its seal isn't that of its bytes",
+            meaning: "it ends too early; there are bytes after its end; its seal isn't that of its bytes",
             smallest_input: "",
-            advice: "",
+            advice: "copy the file again, or answer its fragment again by `xcols work`; `xcols show PATH` says where it is damaged",
         }),
         5 | 6 | 7 => Some(Entry {
             lines: "gather 5 PATH, gather 6 PATH, gather 7 PATH",
             meaning: "it is of another load, of another query, of another cut",
             smallest_input: "",
-            advice: "",
+            advice: "answer the fragment again by `xcols work` with the same query, after the last `load`; `xcols show PATH` says what the file is of",
         }),
         8 => Some(Entry {
             lines: "gather 8 PATH",
             meaning: "its groups don't ascend by their keys, or a set by its values",
             smallest_input: "",
-            advice: "",
+            advice: "answer the fragment again by `xcols work`: no program of ours writes such a file",
         }),
         9 | 10 => Some(Entry {
             lines: "gather 9 PATH, gather 10 PATH",
             meaning: "its groups aren't of the query's form; its numbers can't be those of its rows",
             smallest_input: "",
-            advice: "",
+            advice: "answer the fragment again by `xcols work`, with the files and the query that `gather` gets",
         }),
         _ => None,
     }

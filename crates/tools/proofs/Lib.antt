@@ -1,3 +1,4 @@
 -- The lemmas of this crate.
+pub mod Layers
 pub mod PlainLines
 pub mod Taken

@@ -7,7 +7,7 @@ use Rattle.std.specs.Option.{option_or}
 use Rattle.refusals.specs.declared.entries.Entry.{Entry}
 use Rattle.refusals.specs.Lines.{IsOf}
 use Rattle.refusals.specs.Texts.{is_plain}
-use Rattle.tools.specs.Explained.{AreUnexplained, BeginsPlain, BeginsPlainWithin, BeginsWithCode, IsLongest, behind_name, line_of, with_word, with_words}
+use Rattle.tools.specs.Explained.{BeginsPlain, BeginsPlainWithin, BeginsWithCode, IsEntryOf, IsLongest, line_of, with_word, with_words}
 
 -- no line of the first words, up to so many of them, is one without an error code
 abbrev pub AreNoLines : List (List ℕ) → ℕ → Type 0
@@ -50,12 +50,20 @@ none_more words count (Some entry) found plain before none = absurd (false≢tru
 pub no_word : (words : List (List ℕ)) → AreNoLines words 0
 no_word words = λ n within. let same : 0 ≡ n = omega (arith, within) in subst (λ k. is_plain (line_of words k) ≡ false) same refl
 
+-- the line of one word more
+pub next_line : (words : List (List ℕ)) (count : ℕ) (word line after : List ℕ) → count < length words → word ≡ get_or words count word → line ≡ line_of words count → after ≡ with_word line word → after ≡ line_of words (count + 1)
+next_line words count word line after below is before more =
+    more ∙ ap (λ (l : List ℕ). with_word l word) before ∙ sym (one_more [] (take count words) word)
+    ∙ ap (λ (w : List ℕ). with_words [] (take count words ++ w ∷ [])) is ∙ ap (with_words []) (sym (take_more words count word below))
+
+-- that of all words
+pub whole_line : (words : List (List ℕ)) (count : ℕ) (line : List ℕ) → length words ≤ count → line ≡ line_of words count → line ≡ with_words [] words
+whole_line words count line all is = is ∙ ap (with_words []) (take_all count words all)
+
 pub next_word : (words : List (List ℕ)) (count : ℕ) (word line after : List ℕ) (here found : Option Entry) → count < length words → word ≡ get_or words count word → IsSoFar words count line found → after ≡ with_word line word
     → is_some here ≡ is_plain after → IfSome here (IsOf after) → IsSoFar words (count + 1) after (option_or here found)
 next_word words count word line after here found below is before more plain of =
-    let all : after ≡ line_of words (count + 1) =
-    more ∙ ap (λ (l : List ℕ). with_word l word) before.line_is ∙ sym (one_more [] (take count words) word)
-    ∙ ap (λ (w : List ℕ). with_words [] (take count words ++ w ∷ [])) is ∙ ap (with_words []) (sym (take_more words count word below)) in
+    let all : after ≡ line_of words (count + 1) = next_line words count word line after below is before.line_is more in
     record {
       line_is = all;
       known = either words count here found (plain ∙ ap is_plain all) (subst (λ l. IfSome here (IsOf l)) all of) before.known;
@@ -82,10 +90,7 @@ none_beyond words most count all none = ⊎_elim
 pub no_line : (words : List (List ℕ)) (count : ℕ) (line : List ℕ) (found : Option Entry) → length words ≤ count → IsSoFar words count line found → found ≡ None → (entry : Entry) → BeginsPlain words entry → ⊥
 no_line words count line found all so none entry (n, is, of, longest) = false≢true (sym (none_beyond words count n all (so.none (ap is_some none))) ∙ is)
 
-pub unexplained : {E : Type 0} (words behind : List (List ℕ)) (result : Result (Option Entry) E) → behind ≡ behind_name words → ((entry : Entry) → BeginsWithCode behind entry → ⊥)
-    → IfOk result (λ found. found ≡ None → (entry : Entry) → BeginsPlain behind entry → ⊥) → IfOk result (λ found. found ≡ None → AreUnexplained words)
-unexplained words behind (Err e) same no_code no_plain = no_plain
-unexplained words behind (Ok found) same no_code no_plain = λ none entry explained. ⊎_elim
-    (λ code. no_code entry (subst (λ ws. BeginsWithCode ws entry) (sym same) code))
-    (λ plain. no_plain none entry (subst (λ ws. BeginsPlain ws entry) (sym same) plain))
-    explained
+pub no_entry : {E : Type 0} (words : List (List ℕ)) (result : Result (Option Entry) E) → ((entry : Entry) → BeginsWithCode words entry → ⊥)
+    → IfOk result (λ found. found ≡ None → (entry : Entry) → BeginsPlain words entry → ⊥) → IfOk result (λ found. found ≡ None → (entry : Entry) → IsEntryOf words entry → ⊥)
+no_entry words (Err e) no_code no_plain = no_plain
+no_entry words (Ok found) no_code no_plain = λ none entry explained. ⊎_elim (λ code. no_code entry code) (λ plain. no_plain none entry plain) explained

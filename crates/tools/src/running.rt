@@ -1,16 +1,16 @@
 //! Runs a tool and gives its exit status.
-ghost use Rattle.std.specs.Prelude.{◌≡◌, option_map};
-ghost use Rattle.tools.specs.Explained.{PrintsEntry};
+ghost use Rattle.std.specs.Prelude.{◌≡◌, OnOk, option_map};
+ghost use Rattle.tools.specs.Explained.{PrintsEntry, PrintsExplained};
 ghost use Rattle.tools.specs.Running.{ExplainsPlan, IsStatus, LeavesErrors, LeavesFiles, LeavesOutput, MakesCatalog, PrintsExplanation, PrintsFile, PrintsVersion, SaysCatalog, ShowsFile};
 
-use crate::explaining::entry_of;
+use crate::explaining::{Explanation, explanation_of};
 use crate::words::{ExplainWords, InitWords, ShowWords, Tool};
 use command_line::VERSION;
 use explain::explain;
 use folders::Folder;
 use init::{InitFault, Listing, make_catalog};
 use meaning::Text;
-use refusals::print_known;
+use refusals::{print_codes, print_known};
 use show::{ShowOptions, show};
 use std::alloc::Global;
 use std::io;
@@ -59,20 +59,30 @@ fn print_unknown<E: Write>(err: &mut E) -> io::Result<()> {
     print_known(err)
 }
 
+fn print_explanation<O: Write>(explanation: Explanation, out: &mut O) -> io::Result<()>
+    ensures { OnOk result
+        (PrintsExplained explanation (O.contents out.old) (O.contents out.new)) }
+{
+    match explanation {
+        Explanation::Entry(entry) => writeln!(out, "{entry}"),
+        Explanation::Codes(layer) => print_codes(layer, out),
+    }
+}
+
 fn run_refusal<O: Write, E: Write>(alloc: Global, words: &[Text], out: &mut O, err: &mut E) -> u8
     ensures status { IsStatus result }
     ensures silent { result ≡ 0 → E.contents err.new ≡ E.contents err.old }
     ensures output { PrintsEntry words.now result (O.contents out.old) (O.contents out.new) }
 {
-    let Ok(found) = entry_of(alloc, words) else {
+    let Ok(found) = explanation_of(alloc, words) else {
         let _ = writeln!(err, "xcols: memory");
         return 1;
     };
-    let Some(entry) = found else {
+    let Some(explanation) = found else {
         let _ = print_unknown(err);
         return 1;
     };
-    match writeln!(out, "{entry}") {
+    match print_explanation(explanation, out) {
         Ok(()) => 0,
         Err(_) => {
             let _ = writeln!(err, "xcols: cannot write standard output");

@@ -2,6 +2,7 @@
 use crate::file_disk::FileDisk;
 use crate::part_file::{Part, PartFile};
 use crate::progress::{Progress, Watched};
+use crate::written_path::written_path;
 use cli::Folder;
 use std::alloc::Global;
 use std::fs::{File, OpenOptions};
@@ -65,7 +66,9 @@ impl<'a, R: Files<File = File>> Folder for HostFolder<'a, R> {
         Ok(FileDisk::new(file))
     }
 
+    // Where the path is that of a link, the file that it leads to is written, and the link stays.
     fn create(&mut self, path: &str) -> io::Result<PartFile<'a, R>> {
+        let path = written_path(self.alloc, self.files, path)?;
         PartFile::new(self.alloc, self.files, path)
     }
 
@@ -73,8 +76,9 @@ impl<'a, R: Files<File = File>> Folder for HostFolder<'a, R> {
         file.close()
     }
 
-    fn finish(&mut self, path: &str, file: Part<'a, R>) -> io::Result<()> {
-        file.finish(path)
+    // The part knows the path that it was made for.
+    fn finish(&mut self, _path: &str, file: Part<'a, R>) -> io::Result<()> {
+        file.finish()
     }
 
     fn remove(&mut self, path: &str) -> io::Result<()> {

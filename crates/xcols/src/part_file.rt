@@ -3,6 +3,7 @@ use std::alloc::{AllocError, Global};
 use std::fs::{File, OpenFile};
 use std::io::{BufWriter, ErrorKind, Write};
 use std::mem::drop;
+use std::path::PathBuf;
 use std::rt::Files;
 use std::{fs, io};
 
@@ -14,20 +15,25 @@ const MOST_PARTS: u32 = 1_000;
 pub struct Part<'a, R: Files> {
     files: &'a R,
     name: String,
+    path: PathBuf,
 }
 
 impl<R: Files> Drop for Part<'_, R> {
     fn drop(self) {
-        let Part { files, name } = self;
+        let Part {
+            files,
+            name,
+            path: _path,
+        } = self;
         remove(files, name.as_str());
     }
 }
 
 impl<R: Files> Part<'_, R> {
     /// Renames the file to its path.
-    pub fn finish(self, path: &str) -> io::Result<()> {
-        let Part { files, name } = self;
-        match fs::rename(files, name.as_str(), path) {
+    pub fn finish(self) -> io::Result<()> {
+        let Part { files, name, path } = self;
+        match fs::rename(files, name.as_str(), path.as_path()) {
             Ok(()) => Ok(()),
             Err(error) => {
                 remove(files, name.as_str());
@@ -47,7 +53,7 @@ pub struct PartFile<'a, R: Files> {
 
 impl<'a, R: Files> PartFile<'a, R> {
     /// An empty file that is for a path.
-    pub fn new(alloc: Global, files: &'a R, path: &str) -> io::Result<PartFile<'a, R>> {
+    pub fn new(alloc: Global, files: &'a R, path: PathBuf) -> io::Result<PartFile<'a, R>> {
         let (part, file) = create(alloc, files, path)?;
         let file = BufWriter::new(alloc, file)?;
         Ok(PartFile { file, part })
@@ -97,12 +103,12 @@ fn try_create<R: Files>(files: &R, name: &str) -> io::Result<Option<R::File>> {
 fn create<'a, R: Files>(
     alloc: Global,
     files: &'a R,
-    path: &str,
+    path: PathBuf,
 ) -> io::Result<(Part<'a, R>, R::File)> {
     for number in 0..MOST_PARTS {
-        let name = part_name(alloc, path, number)?;
+        let name = part_name(alloc, path.as_str(), number)?;
         if let Some(file) = try_create(files, name.as_str())? {
-            return Ok((Part { files, name }, file));
+            return Ok((Part { files, name, path }, file));
         }
     }
     Err(io::Error::from(ErrorKind::AlreadyExists))

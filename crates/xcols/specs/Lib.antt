@@ -1,3 +1,4 @@
 -- The definitions of this crate.
 pub mod FileDisk
+pub mod Progress
 pub mod Request

@@ -9,6 +9,7 @@ mod host_folder;
 mod host_listing;
 mod part_file;
 mod progress;
+mod progress_word;
 mod written_path;
 
 use crate::asking::{Request, asked};

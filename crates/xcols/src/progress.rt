@@ -1,6 +1,5 @@
 //! How far a command has come, on standard error.
 use memchr::memchr2_iter;
-use std::alloc::Global;
 use std::cell::Cell;
 use std::fs::File;
 use std::io;
@@ -201,35 +200,4 @@ impl Read for Watched<'_> {
         }
         Ok(read)
     }
-}
-
-/// The commands that take the word, and the word.
-const COMMANDS: [&str; 3] = ["load", "whole", "gather"];
-
-const WORD: &str = "--progress";
-
-/// Whether the word at this index asks for progress: it stands in front of `--`, and isn't a query.
-fn asks(words: &[&str], at: usize) -> bool {
-    let (Some(word), Some(before)) = (words.get(at), words.get(at.saturating_sub(1))) else {
-        return false;
-    };
-    *word == WORD && *before != "--query"
-}
-
-/// A command's words without those that ask for progress, and whether there was one.
-pub fn without_progress<'w>(alloc: Global, words: &[&'w str]) -> io::Result<(Vec<&'w str>, bool)> {
-    let mut kept = Vec::new(alloc);
-    let mut ends = !words
-        .first()
-        .is_some_and(|command| COMMANDS.contains(command));
-    let mut found = false;
-    for at in 0..words.len() {
-        ends |= words[at] == "--";
-        if !ends && asks(words, at) {
-            found = true;
-        } else {
-            kept.push(words[at])?;
-        }
-    }
-    Ok((kept, found))
 }

@@ -10,12 +10,19 @@ mod host_listing;
 mod part_file;
 mod progress;
 mod progress_word;
+mod streams;
 mod written_path;
 
 use crate::asking::{Request, asked};
 use crate::host_folder::HostFolder;
 use crate::progress::{Behind, Progress};
+use crate::streams::{Lines, Output};
+use std::cell::Cell;
 use std::process::ExitCode;
+
+/// The status where nobody reads the pipe of standard output any more: that of a program which the
+/// signal for it ends.
+const CLOSED_PIPE: u8 = 141;
 
 fn main(rt: HostRuntime) -> ExitCode {
     match asked(&rt) {
@@ -48,10 +55,12 @@ fn run_request(rt: &HostRuntime, request: &Request, progress: Option<&Progress<'
 {
     let alloc = rt.alloc();
     let mut folder = HostFolder::new(alloc, rt, progress);
-    let mut out = Behind::new(rt.stdout(), progress);
-    let mut err = Behind::new(rt.stderr(), progress);
-    match request {
+    let is_closed = Cell::new(false);
+    let mut out = Output::new(Behind::new(rt.stdout(), progress), &is_closed);
+    let mut err = Lines::new(Behind::new(rt.stderr(), progress), &is_closed);
+    let status = match request {
         Request::Tool(tool) => tools::run(alloc, tool, &mut folder, &mut out, &mut err),
         Request::Command(command) => cli::run(alloc, command, &mut folder, &mut out, &mut err),
-    }
+    };
+    if is_closed.get() { CLOSED_PIPE } else { status }
 }

@@ -7,6 +7,8 @@ mod asking;
 mod file_disk;
 mod host_folder;
 mod host_listing;
+mod load_names;
+mod load_run;
 mod part_file;
 mod progress;
 mod progress_word;

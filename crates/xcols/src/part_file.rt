@@ -29,7 +29,12 @@ impl<R: Files> Drop for Part<'_, R> {
     }
 }
 
-impl<R: Files> Part<'_, R> {
+impl<'a, R: Files> Part<'a, R> {
+    /// The part of this name, which is for a path.
+    pub fn new(files: &'a R, name: String, path: PathBuf) -> Part<'a, R> {
+        Part { files, name, path }
+    }
+
     /// Renames the file to its path.
     pub fn finish(self) -> io::Result<()> {
         let Part { files, name, path } = self;
@@ -55,6 +60,11 @@ impl<'a, R: Files> PartFile<'a, R> {
     /// An empty file that is for a path.
     pub fn new(alloc: Global, files: &'a R, path: PathBuf) -> io::Result<PartFile<'a, R>> {
         let (part, file) = create(alloc, files, path)?;
+        PartFile::over(alloc, file, part)
+    }
+
+    /// An empty file that has this part's name.
+    pub fn over(alloc: Global, file: R::File, part: Part<'a, R>) -> io::Result<PartFile<'a, R>> {
         let file = BufWriter::new(alloc, file)?;
         Ok(PartFile { file, part })
     }
@@ -84,12 +94,13 @@ fn remove<R: Files>(files: &R, name: &str) {
     let _ = fs::remove_file(files, name);
 }
 
-fn part_name(alloc: Global, path: &str, number: u32) -> Result<String, AllocError> {
+/// The name of a path's part.
+pub fn part_name(alloc: Global, path: &str, number: u32) -> Result<String, AllocError> {
     format!(in alloc; "{path}.{number}.part")
 }
 
 /// A new file, or `None` where the name is taken.
-fn try_create<R: Files>(files: &R, name: &str) -> io::Result<Option<R::File>> {
+pub fn try_create<R: Files>(files: &R, name: &str) -> io::Result<Option<R::File>> {
     match File::create_new(files, name) {
         Ok(file) => Ok(Some(file)),
         Err(error) => match error.kind() {

@@ -183,6 +183,7 @@ pub fn put_file<F: Folder>(folder: &mut F, path: &Text, file: F::Closed) -> Resu
     ensures finished { OnOk result
         (Finishes (F.wrote folder.old) (F.wrote folder.new) path.now (F.enclosed file)) }
     ensures refused { IfErr result (IsUnwritten path.now) }
+    ensures stayed { OnErr result (F.stays path.now) }
     ensures unchanged { OnErr result (F.wrote folder.new ≡ F.wrote folder.old) }
     ensures unwritten { IfErr result (IsTriedFor (F.tries folder.old)) }
     ensures trying { AsksOf (F.tries folder.old) (F.tries folder.new) }
@@ -208,6 +209,7 @@ pub fn finish_file<F: Folder>(folder: &mut F, path: &Text, file: F::Writer) -> R
 pub fn remove_file<F: Folder>(folder: &mut F, path: &Text) -> Result<(), Refusal>
     ensures removed { OnOk result (Removes (F.wrote folder.old) (F.wrote folder.new) path.now) }
     ensures refused { IfErr result (IsUnwritten path.now) }
+    ensures stayed { OnErr result (F.stays path.now) }
     ensures unchanged { OnErr result (F.wrote folder.new ≡ F.wrote folder.old) }
     ensures unwritten { IfErr result (IsTriedFor (F.tries folder.old)) }
     ensures trying { AsksOf (F.tries folder.old) (F.tries folder.new) }

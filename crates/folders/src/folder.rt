@@ -45,6 +45,9 @@ pub trait Folder {
     // What a path meets once a file was created for it.
     ghost creates: { Self → List ℕ → Type 0 } = { λ _ _. ⊤ };
 
+    // What a path meets under which a closed file couldn't be put, or whose file couldn't be taken away.
+    ghost stays: { List ℕ → Type 0 } = { λ _. ⊤ };
+
     // The files finished and taken away so far, where they are known.
     ghost wrote: { Self → Option (List Change) } = { λ _. None };
 
@@ -91,6 +94,7 @@ pub trait Folder {
         ensures finished { OnOk result (Finishes (wrote self.old) (wrote self.new) path.now
             (enclosed file)) }
         ensures tried { tries self.old path.now }
+        ensures stayed { OnErr result (stays path.now) }
         ensures unchanged { OnErr result (wrote self.new ≡ wrote self.old) }
         ensures trying { AsksOf (tries self.old) (tries self.new) };
 
@@ -98,6 +102,7 @@ pub trait Folder {
     fn remove(&mut self, path: &str) -> io::Result<()>
         ensures removed { OnOk result (Removes (wrote self.old) (wrote self.new) path.now) }
         ensures tried { tries self.old path.now }
+        ensures stayed { OnErr result (stays path.now) }
         ensures unchanged { OnErr result (wrote self.new ≡ wrote self.old) }
         ensures trying { AsksOf (tries self.old) (tries self.new) };
 }

@@ -2,6 +2,8 @@
 mod Finished
 mod HandedOn
 mod LoadedColumns
+mod NotPut
+mod Planned
 mod Printed
 mod Refusals
 mod Tried

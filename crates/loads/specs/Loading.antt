@@ -1,5 +1,5 @@
 -- What loading a folder's tables gives, and which files it writes and takes away.
-use Rattle.std.specs.Prelude.{◌≡◌, ◌⊎◌, ℕ, ◌≤◌, ◌-◌, List, [], ◌∷◌, ◌++◌, length, map, take, drop, sum, slice_index, zip, codes, decimal, Option, None, Some, Ok}
+use Rattle.std.specs.Prelude.{◌≡◌, ◌⊎◌, ℕ, ◌≤◌, ◌-◌, List, [], ◌∷◌, ◌++◌, length, map, take, drop, sum, slice_index, zip, codes, decimal, ⊤, Option, None, Some, Ok}
 use Rattle.std.specs.List.{enumerate_from, range_with_len}
 use Rattle.std.specs.Io.KnownBytes.{Appends}
 use Rattle.meaning.specs.Limits.{max_fragments, max_rows}
@@ -19,6 +19,7 @@ use Rattle.fragment_file.specs.declared.header.Header.{Header}
 use Rattle.fragment_file.specs.declared.header.Slice.{Slice}
 use Rattle.folders.specs.Each.{AreEach}
 use Rattle.folders.specs.Folder.{Holds, Change, AreHeld, Encloses, Writes, catalog_path, csv_path, fragment_path, dimension_path, cut_path}
+use Rattle.loads.specs.declared.ready.Ready.{Ready}
 
 -- ---- what a file may be written of
 
@@ -143,6 +144,49 @@ IsFragmentClosed enclosed wrote load table cut p file = Encloses (StandsForFragm
 -- the files of fragments are closed, in their order
 abbrev pub AreFragmentsClosed : {P : Type 0} → (P → Option (List ℕ)) → Option (List Change) → ℕ → Table → Cut → List (List ColumnSpec) → List P → Type 0
 AreFragmentsClosed enclosed wrote load table cut fragments files = AreEach (IsFragmentClosed enclosed wrote load table cut) (enumerate_from 0 fragments) files
+
+-- ---- files that are closed, with their paths
+
+-- the file is put under its path
+abbrev pub put : {P : Type 0} → (P → Option (List ℕ)) → Ready P → Change
+put enclosed ready = (ready.path, enclosed ready.file)
+
+-- the file of a path is taken away
+abbrev pub gone : List ℕ → Change
+gone path = (path, None)
+
+-- the files' bytes are known
+abbrev pub AreKnown : {P : Type 0} → (P → Option (List ℕ)) → List (Ready P) → Type 0
+AreKnown enclosed [] = ⊤
+AreKnown enclosed (r ∷ rs) = ((bytes : List ℕ) × (enclosed r.file ≡ Some bytes)) × AreKnown enclosed rs
+
+-- the first of these changes
+abbrev pub AreFirst : List Change → List Change → Type 0
+AreFirst all changes = (n : ℕ) × (n ≤ length all) × (changes ≡ take n all)
+
+-- the first of these changes; or all of them, and the first of those behind them; or all of both, and the first of the last
+abbrev pub AreFirstOfThree : List Change → List Change → List Change → List Change → Type 0
+AreFirstOfThree a b c changes = AreFirst a changes
+    ⊎ ((n : ℕ) × (n ≤ length b) × (changes ≡ a ++ take n b))
+    ⊎ ((n : ℕ) × (n ≤ length c) × (changes ≡ a ++ (b ++ take n c)))
+
+-- a closed file with its path, of which its number and the closed file are given
+abbrev pub IsReadyUnder : {P : Type 0} → List ℕ → Table → ℕ × P → Ready P → Type 0
+IsReadyUnder folder table p ready = (ready.path ≡ fragment_path folder table.name p.0) × (ready.file ≡ p.1)
+
+-- a dimension's file is closed, and has its path; its declaration and columns are given
+abbrev pub IsDimensionReady : {P : Type 0} → (P → Option (List ℕ)) → Option (List Change) → List ℕ → ℕ → Dimension × List ColumnSpec → Ready P → Type 0
+IsDimensionReady enclosed wrote folder load p ready = (ready.path ≡ dimension_path folder p.0.table.name)
+    × Encloses (λ bytes. Stands bytes (header_of load p.0.table 0 0 (rows_in p.1)) p.1) wrote (enclosed ready.file)
+
+-- the file of the cut is closed, and has its path
+abbrev pub IsCutReady : {P : Type 0} → (P → Option (List ℕ)) → Option (List Change) → List ℕ → ℕ → Cut → Ready P → Type 0
+IsCutReady enclosed wrote folder load cut ready = (ready.path ≡ cut_path folder)
+    × Encloses (λ bytes. bytes ≡ sealed (cut_bytes (record { load = load; cut = cut }))) wrote (enclosed ready.file)
+
+-- the paths of the files of fragments that the cut doesn't have
+abbrev pub removal_paths : List ℕ → Table → Cut → List (List ℕ)
+removal_paths folder table cut = map (fragment_path folder table.name) (range_with_len (length cut) (max_fragments - length cut))
 
 -- ---- the command
 

@@ -15,6 +15,7 @@ use Rattle.folders.specs.Refused.{IsTriedFor, IsUnread, IsUnwritten}
 use Rattle.folders.specs.Tables.{IsCatalogRefused, IsCatalogThere}
 use Rattle.folders.specs.declared.refusal.Refusal.{Refusal}
 use Rattle.folders.specs.declared.refusal.Refusal.TheVariants as refusal
+use Rattle.loads.specs.declared.ready.Ready.{Ready}
 use Rattle.loads.specs.Loading.{AreFiles, AreFilesBegun, IsDimensionLoaded, IsFactCounted, IsFactLoaded}
 
 -- ---- the fact's rows, cut
@@ -70,6 +71,14 @@ AreDimensionsUnwritten folder dims e = (d : Dimension) × Contains dims d × IsU
 abbrev pub IsFragmentLeft : List ℕ → List ℕ → Cut → Refusal → Type 0
 IsFragmentLeft folder table cut e = (k : ℕ) × (length cut ≤ k) × (k < max_fragments) × IsUnwritten (fragment_path folder table k) e
 
+-- one of these closed files can't be put under its path
+abbrev pub IsNotPut : {P : Type 0} → List (Ready P) → Refusal → Type 0
+IsNotPut {P = P} files e = (before behind : List (Ready P)) × (ready : Ready P) × (files ≡ before ++ ready ∷ behind) × IsUnwritten ready.path e
+
+-- the file of one of these paths can't be taken away
+abbrev pub IsNotGone : List (List ℕ) → Refusal → Type 0
+IsNotGone paths e = (before behind : List (List ℕ)) × (path : List ℕ) × (paths ≡ before ++ path ∷ behind) × IsUnwritten path e
+
 -- a fragment's file, a dimension's or that of the cut can't be written, or that of another fragment can't be taken away
 abbrev pub AreFilesUnwritten : List ℕ → Catalog → Cut → Refusal → Type 0
 AreFilesUnwritten folder catalog cut e = AreFragmentsUnwritten folder catalog.fact.name (length cut) e
@@ -113,6 +122,15 @@ IsWrittenSoFar folder load catalog cut fragments dims e before after =
 -- nothing was printed, unless standard output failed
 abbrev pub IsQuiet : Refusal → Option (List ℕ) → Option (List ℕ) → Type 0
 IsQuiet e before after = (e ≡ refusal.CannotPrint) ⊎ (after ≡ before)
+
+-- a closed file can't be put under a path, or the path's file can't be taken away
+abbrev pub IsStuck : (List ℕ → Type 0) → Refusal → Type 0
+IsStuck stays e = (path : List ℕ) × stays path × IsUnwritten path e
+
+-- No file was written or taken away, unless one can't be put under its path or taken away, or standard output failed behind
+-- them all: what else is refused comes before the first of them.
+abbrev pub IsWholeUnlessStuck : (List ℕ → Type 0) → Refusal → Option (List Change) → Option (List Change) → Type 0
+IsWholeUnlessStuck stays e before after = (after ≡ before) ⊎ IsStuck stays e ⊎ (e ≡ refusal.CannotPrint)
 
 -- no file was written, and standard output didn't fail
 abbrev pub IsUntouched : Refusal → Option (List Change) → Option (List Change) → Type 0

@@ -5,6 +5,7 @@ mod counting;
 mod fragments;
 mod load;
 mod loading;
+mod ready;
 mod saving;
 mod target;
 

@@ -7,7 +7,7 @@ ghost use Rattle.folders.specs.Each.{AreEach};
 ghost use Rattle.folders.specs.Folder.{Writes};
 ghost use Rattle.folders.specs.Refused.{IsAskedFor, IsTriedFor};
 ghost use Rattle.loads.specs.Loading.{AreDimensionColumns, AreFiles, AreFilesBegun, AreFragmentsClosed, IsCatalogLoaded, IsDimensionLoaded, IsLoadDone, loaded_line};
-ghost use Rattle.loads.specs.Refusing.{AreFilesUnwritten, AreFragmentsUnwritten, IsCatalogLoadLeft, IsCatalogLoadRefused, IsLoadLeft, IsLoadRefused, IsQuiet, IsTriedOr, IsUnfinished, IsUnsaved, IsUntouched, IsWrittenSoFar};
+ghost use Rattle.loads.specs.Refusing.{AreFilesUnwritten, AreFragmentsUnwritten, IsCatalogLoadLeft, IsCatalogLoadRefused, IsLoadLeft, IsLoadRefused, IsQuiet, IsStuck, IsTriedOr, IsUnfinished, IsUnsaved, IsUntouched, IsWholeUnlessStuck, IsWrittenSoFar};
 
 use crate::fragments::{Fact, load_fact};
 use crate::loading::load_dimensions;
@@ -68,6 +68,8 @@ fn save_written<F: Folder>(
         target.now.load target.now.catalog.now.fact cut.now fragments files.items)
         → Writes (AreFilesBegun target.now.directory.now target.now.load target.now.catalog.now
         cut.now fragments dims.now) (F.wrote folder.old) (F.wrote folder.new))) }
+    ensures whole { IfErr result (λ e. (F.wrote folder.new ≡ F.wrote folder.old)
+        ⊎ IsStuck F.stays e) }
     ensures unwritten { IfErr result (IsTriedOr (F.tries folder.old) files) }
 {
     let files = files?;
@@ -106,6 +108,8 @@ fn save_and_print<F: Folder, O: Write>(
         target.now.load target.now.catalog.now.fact fact.cut fragments files.items)
         → IsWrittenSoFar target.now.directory.now target.now.load target.now.catalog.now fact.cut
         fragments dims.now e (F.wrote folder.old) (F.wrote folder.new))) }
+    ensures whole { IfErr result (λ e. IsWholeUnlessStuck F.stays e (F.wrote folder.old)
+        (F.wrote folder.new)) }
     ensures unwritten { IfErr result (IsTriedOr (F.tries folder.old) fact.files) }
 {
     let Fact { rows, cut, files } = fact;
@@ -153,6 +157,8 @@ fn finish_load<F: Folder, O: Write>(
         target.now.catalog.now.dims dims
         × IsWrittenSoFar target.now.directory.now target.now.load target.now.catalog.now fact.cut
         fragments dims e (F.wrote folder.old) (F.wrote folder.new))) }
+    ensures whole { IfErr result (λ e. IsWholeUnlessStuck F.stays e (F.wrote folder.old)
+        (F.wrote folder.new)) }
     ensures unread { IfErr result (IsAskedFor (F.asks folder.old)) }
     ensures unwritten { IfErr result (IsTriedOr (F.tries folder.old) fact.files) }
 {
@@ -189,6 +195,8 @@ fn load_declared<F: Folder, O: Write>(
     ensures left { IfErr result (λ e. IsCatalogLoadLeft (F.holds folder.old)
         target.now.directory.now target.now.load rows target.now.catalog.now e
         (F.wrote folder.old) (F.wrote folder.new)) }
+    ensures whole { IfErr result (λ e. IsWholeUnlessStuck F.stays e (F.wrote folder.old)
+        (F.wrote folder.new)) }
     ensures unread { IfErr result (IsAskedFor (F.asks folder.old)) }
     ensures unwritten { IfErr result (IsTriedFor (F.tries folder.old)) }
 {
@@ -202,8 +210,9 @@ fn load_declared<F: Folder, O: Write>(
 /// # Errors
 ///
 /// Out of memory, or the first of these: the catalogue's, the fact's, a dimension's, a file that
-/// can't be written or taken away, the line that can't be printed. No file was written then, unless
-/// all tables were loaded.
+/// can't be written or taken away, the line that can't be printed. Each file of the folder is then as
+/// it was, unless a closed file can't be put under its path or one can't be taken away: that happens
+/// once all tables are loaded, and all their files closed.
 pub fn load_tables<F: Folder, O: Write>(
     alloc: Global,
     folder: &mut F,
@@ -220,6 +229,9 @@ pub fn load_tables<F: Folder, O: Write>(
     ensures quiet { IfErr result (λ e. IsQuiet e (O.contents out.old) (O.contents out.new)) }
     ensures left { IfErr result (λ e. IsLoadLeft (F.holds folder.old) directory.now load rows e
         (F.wrote folder.old) (F.wrote folder.new)) }
+    // A refusal before the first file was put under its path or taken away leaves every file as it was.
+    ensures whole { IfErr result (λ e. IsWholeUnlessStuck F.stays e (F.wrote folder.old)
+        (F.wrote folder.new)) }
     // A file that can't be read was asked for.
     ensures unread { IfErr result (IsAskedFor (F.asks folder.old)) }
     // One that can't be written was to be created, put under its path or taken away.

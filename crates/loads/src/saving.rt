@@ -1,6 +1,6 @@
 //! Writes the files of `load`.
-ghost use Rattle.std.specs.Prelude.{◌≡◌, ◌≤◌, ◌<◌, ◌-◌, ℕ, List, None, IfErr, IfOk, OnErr, OnOk, length, map, zip};
-ghost use Rattle.std.specs.List.{enumerate_from, range_with_len};
+ghost use Rattle.std.specs.Prelude.{◌≡◌, ◌≤◌, ◌∷◌, ◌++◌, [], ◌⊎◌, List, IfErr, IfOk, OnErr, OnOk, length, map, zip};
+ghost use Rattle.std.specs.List.{enumerate_from};
 ghost use Rattle.meaning.specs.Limits.{max_fragments, max_rows};
 ghost use Rattle.meaning.specs.Catalog.{IsWellFormed, IsWellFormedTable};
 ghost use Rattle.columns.specs.Column.{ColumnSpec};
@@ -8,21 +8,22 @@ ghost use Rattle.fragment_file.specs.Fragment.{IsHeader, Stands, table_header};
 ghost use Rattle.wire.specs.Bytes.{sealed};
 ghost use Rattle.fragment_file.specs.Writing.{AreColumns, AreColumnsOf};
 ghost use Rattle.fragment_file.specs.CutFile.{cut_bytes};
-ghost use Rattle.folders.specs.Folder.{AsksOf, Encloses, Finishes, Removes, Writes, WritesOne, fragment_path, dimension_path, cut_path};
+ghost use Rattle.folders.specs.Folder.{AsksOf, Encloses, Finishes, Writes, cut_path, dimension_path, fragment_path};
 ghost use Rattle.folders.specs.Refused.{IsTriedFor, IsUnwritten};
 ghost use Rattle.folders.specs.Each.{AreEach};
-ghost use Rattle.loads.specs.Refusing.{AreDimensionsUnwritten, AreFilesUnwritten, AreFragmentsUnwritten, IsFragmentLeft};
-ghost use Rattle.loads.specs.Loading.{AreDimensionColumns, AreDimensionsBegun, AreFiles, AreFilesBegun, AreFragmentsBegun, AreFragmentsClosed, AreRemovalsBegun, IsDimensionFile, IsFragmentFile, header_of, removals, rows_in};
+ghost use Rattle.loads.specs.Refusing.{AreDimensionsUnwritten, AreFilesUnwritten, IsNotGone, IsNotPut, IsStuck};
+ghost use Rattle.loads.specs.Loading.{AreDimensionColumns, AreFiles, AreFilesBegun, AreFirst, AreFirstOfThree, AreFragmentsClosed, AreKnown, IsCutReady, IsDimensionReady, IsReadyUnder, StandsForFragment, gone, header_of, put, removal_paths, rows_in};
 
+use crate::ready::Ready;
 use crate::target::Target;
 use columns::Column;
 use folders::{
-    Folder, Refusal, close_file, create_file, cut_path, dimension_path, finish_file, fragment_path,
-    put_file, refusal_of_file, remove_file,
+    Folder, Refusal, close_file, create_file, cut_path, dimension_path, fragment_path, put_file,
+    refusal_of_file, remove_file,
 };
 use fragment_file::{Header, Slice, write, write_cut};
 use meaning::{Cut, Dimension, MAX_FRAGMENTS, Sequence, Text};
-use std::alloc::Global;
+use std::alloc::{AllocError, Global};
 use std::collections::VecDeque;
 
 /// Writes a file of columns, and closes it.
@@ -91,108 +92,43 @@ pub fn write_fragment<F: Folder>(
     write_rows(alloc, folder, &path, &header, columns)
 }
 
-/// Puts a fragment's file under its path.
-fn put_fragment<F: Folder>(
+/// The fragments' closed files, each with its path.
+fn ready_fragments<P: Drop>(
     alloc: Global,
-    folder: &mut F,
     target: &Target<'_>,
-    fragment: u32,
-    file: F::Closed,
-) -> Result<(), Refusal>
-    ensures put { OnOk result (Finishes (F.wrote folder.old) (F.wrote folder.new)
-        (fragment_path target.now.directory.now target.now.catalog.now.fact.name fragment)
-        (F.enclosed file)) }
-    ensures left { OnErr result (F.wrote folder.new ≡ F.wrote folder.old) }
-    ensures refused { IfErr result
-        (IsUnwritten (fragment_path target.now.directory.now target.now.catalog.now.fact.name
-        fragment)) }
-    ensures unwritten { IfErr result (IsTriedFor (F.tries folder.old)) }
-    ensures trying { AsksOf (F.tries folder.old) (F.tries folder.new) }
+    files: VecDeque<P>,
+) -> Result<VecDeque<Ready<P>>, AllocError>
+    requires { length files.items ≤ max_fragments }
+    ensures { IfOk result
+        (λ ready. AreEach
+        (IsReadyUnder target.now.directory.now target.now.catalog.now.fact)
+        (enumerate_from 0 files.items) ready.items) }
 {
     let name = target.catalog.fact.name.as_str();
-    let path = fragment_path(alloc, target.directory, name, fragment)?;
-    put_file(folder, &path, file)
-}
-
-/// Puts the fragments' files under their paths, one after the other.
-fn put_fragments<F: Folder>(
-    alloc: Global,
-    folder: &mut F,
-    target: &Target<'_>,
-    files: VecDeque<F::Closed>,
-) -> Result<(), Refusal>
-    requires { length files.items ≤ max_fragments }
-    ensures put { OnOk result ((cut : List ℕ) (fragments : List (List ColumnSpec))
-        → AreFragmentsClosed F.enclosed (F.wrote folder.old) target.now.load
-        target.now.catalog.now.fact cut fragments files.items
-        → Writes (AreEach (IsFragmentFile target.now.directory.now target.now.load
-        target.now.catalog.now.fact cut) (enumerate_from 0 fragments))
-        (F.wrote folder.old) (F.wrote folder.new)) }
-    ensures left { OnErr result ((cut : List ℕ) (fragments : List (List ColumnSpec))
-        → AreFragmentsClosed F.enclosed (F.wrote folder.old) target.now.load
-        target.now.catalog.now.fact cut fragments files.items
-        → Writes (AreFragmentsBegun target.now.directory.now target.now.load
-        target.now.catalog.now.fact cut fragments) (F.wrote folder.old) (F.wrote folder.new)) }
-    ensures refused { IfErr result
-        (AreFragmentsUnwritten target.now.directory.now target.now.catalog.now.fact.name
-        (length files.items)) }
-    ensures unwritten { IfErr result (IsTriedFor (F.tries folder.old)) }
-    ensures trying { AsksOf (F.tries folder.old) (F.tries folder.new) }
-{
     let mut files = files;
+    let mut ready = VecDeque::new(alloc);
     let mut fragment = 0;
     while let Some(file) = files.pop_front() {
-        put_fragment(alloc, folder, target, fragment, file)?;
+        let path = fragment_path(alloc, target.directory, name, fragment)?;
+        ready.push_back(Ready { path, file })?;
         fragment += 1;
     }
-    Ok(())
+    Ok(ready)
 }
 
-/// Takes a fragment's file away, where there is one.
-fn remove_fragment<F: Folder>(
-    alloc: Global,
-    folder: &mut F,
-    target: &Target<'_>,
-    fragment: u32,
-) -> Result<(), Refusal>
-    ensures removed { OnOk result (Removes (F.wrote folder.old) (F.wrote folder.new)
-        (fragment_path target.now.directory.now target.now.catalog.now.fact.name fragment)) }
-    ensures left { OnErr result (F.wrote folder.new ≡ F.wrote folder.old) }
-    ensures refused { IfErr result
-        (IsUnwritten (fragment_path target.now.directory.now target.now.catalog.now.fact.name
-        fragment)) }
-    ensures unwritten { IfErr result (IsTriedFor (F.tries folder.old)) }
-    ensures trying { AsksOf (F.tries folder.old) (F.tries folder.new) }
+/// The paths of the files of fragments that the cut doesn't have, which an earlier load may have
+/// left.
+fn removal_paths(alloc: Global, target: &Target<'_>, cut: &Cut) -> Result<Vec<Text>, AllocError>
+    ensures { IfOk result
+        (λ paths. paths.items
+        ≡ removal_paths target.now.directory.now target.now.catalog.now.fact cut.now) }
 {
     let name = target.catalog.fact.name.as_str();
-    let path = fragment_path(alloc, target.directory, name, fragment)?;
-    remove_file(folder, &path)
-}
-
-/// Takes away the files of fragments that the cut doesn't have, which an earlier load may have
-/// left.
-fn remove_fragments<F: Folder>(
-    alloc: Global,
-    folder: &mut F,
-    target: &Target<'_>,
-    cut: &Cut,
-) -> Result<(), Refusal>
-    ensures removed { OnOk result
-        (Writes (λ changes. changes
-        ≡ removals target.now.directory.now target.now.catalog.now.fact cut.now)
-        (F.wrote folder.old) (F.wrote folder.new)) }
-    ensures left { OnErr result
-        (Writes (AreRemovalsBegun target.now.directory.now target.now.catalog.now.fact cut.now)
-        (F.wrote folder.old) (F.wrote folder.new)) }
-    ensures refused { IfErr result
-        (IsFragmentLeft target.now.directory.now target.now.catalog.now.fact.name cut.now) }
-    ensures unwritten { IfErr result (IsTriedFor (F.tries folder.old)) }
-    ensures trying { AsksOf (F.tries folder.old) (F.tries folder.new) }
-{
+    let mut paths = Vec::new(alloc);
     for fragment in cut.lengths().len()..MAX_FRAGMENTS {
-        remove_fragment(alloc, folder, target, fragment as u32)?;
+        paths.push(fragment_path(alloc, target.directory, name, fragment as u32)?)?;
     }
-    Ok(())
+    Ok(paths)
 }
 
 // ---- dimensions
@@ -207,42 +143,43 @@ fn rows_in(columns: &[Column]) -> usize
     }
 }
 
-fn save_rows<F: Folder>(
+/// Writes a file of columns, and closes it. It stands under no path yet.
+fn write_ready<F: Folder>(
     alloc: Global,
     folder: &mut F,
-    path: &Text,
+    path: Text,
     header: &Header,
     columns: &[Column],
-) -> Result<(), Refusal>
+) -> Result<Ready<F::Closed>, Refusal>
     requires header { IsHeader header.now }
     requires columns { AreColumnsOf header.now columns.now }
-    ensures written { OnOk result
-        (WritesOne path.now (λ bytes. Stands bytes header.now columns.now) (F.wrote folder.old)
-        (F.wrote folder.new)) }
-    ensures left { OnErr result (F.wrote folder.new ≡ F.wrote folder.old) }
-    ensures refused { IfErr result (IsUnwritten path.now) }
+    ensures path { IfOk result (λ ready. ready.path ≡ path) }
+    ensures written { IfOk result
+        (λ ready. Encloses (λ bytes. Stands bytes header.now columns.now) (F.wrote folder.old)
+        (F.enclosed ready.file)) }
+    ensures same { F.wrote folder.new ≡ F.wrote folder.old }
+    ensures refused { IfErr result (IsUnwritten path) }
     ensures unwritten { IfErr result (IsTriedFor (F.tries folder.old)) }
     ensures trying { AsksOf (F.tries folder.old) (F.tries folder.new) }
 {
-    let file = write_rows(alloc, folder, path, header, columns)?;
-    put_file(folder, path, file)
+    let file = write_rows(alloc, folder, &path, header, columns)?;
+    Ok(Ready { path, file })
 }
 
-fn save_dimension<F: Folder>(
+/// Writes the file of a dimension, and closes it. It stands under no path yet.
+fn write_dimension<F: Folder>(
     alloc: Global,
     folder: &mut F,
     target: &Target<'_>,
     dim: &Dimension,
     columns: &[Column],
-) -> Result<(), Refusal>
+) -> Result<Ready<F::Closed>, Refusal>
     requires table { IsWellFormedTable dim.now.table }
     requires columns { AreDimensionColumns dim.now columns.now }
-    ensures written { OnOk result
-        (WritesOne (dimension_path target.now.directory.now dim.now.table.name)
-        (λ bytes. Stands bytes (header_of target.now.load dim.now.table 0 0 (rows_in columns.now))
-        columns.now)
-        (F.wrote folder.old) (F.wrote folder.new)) }
-    ensures left { OnErr result (F.wrote folder.new ≡ F.wrote folder.old) }
+    ensures ready { IfOk result
+        (IsDimensionReady F.enclosed (F.wrote folder.old) target.now.directory.now target.now.load
+        (dim.now, columns.now)) }
+    ensures same { F.wrote folder.new ≡ F.wrote folder.old }
     ensures refused { IfErr result
         (IsUnwritten (dimension_path target.now.directory.now dim.now.table.name)) }
     ensures unwritten { IfErr result (IsTriedFor (F.tries folder.old)) }
@@ -255,66 +192,212 @@ fn save_dimension<F: Folder>(
         rows: rows_in(columns) as u32,
     };
     let header = Header::of_table(alloc, target.load, &dim.table, slice)?;
-    save_rows(alloc, folder, &path, &header, columns)
+    write_ready(alloc, folder, path, &header, columns)
 }
 
-fn save_dimensions<F: Folder>(
+/// Writes the files of the dimensions, and closes them. They stand under no path yet.
+fn write_dimensions<F: Folder>(
     alloc: Global,
     folder: &mut F,
     target: &Target<'_>,
     dims: &[Sequence<Column>],
-) -> Result<(), Refusal>
+) -> Result<VecDeque<Ready<F::Closed>>, Refusal>
     requires well_formed { IsWellFormed target.now.catalog.now }
     requires columns { AreEach AreDimensionColumns target.now.catalog.now.dims dims.now }
-    ensures written { OnOk result
-        (Writes (AreEach (IsDimensionFile target.now.directory.now target.now.load)
-        (zip target.now.catalog.now.dims dims.now))
-        (F.wrote folder.old) (F.wrote folder.new)) }
-    ensures left { OnErr result
-        (Writes (AreDimensionsBegun target.now.directory.now target.now.load
-        target.now.catalog.now.dims dims.now) (F.wrote folder.old) (F.wrote folder.new)) }
+    ensures ready { IfOk result
+        (λ ready. AreEach (IsDimensionReady F.enclosed (F.wrote folder.old)
+        target.now.directory.now target.now.load)
+        (zip target.now.catalog.now.dims dims.now) ready.items) }
+    ensures same { F.wrote folder.new ≡ F.wrote folder.old }
     ensures refused { IfErr result
         (AreDimensionsUnwritten target.now.directory.now target.now.catalog.now.dims) }
     ensures unwritten { IfErr result (IsTriedFor (F.tries folder.old)) }
     ensures trying { AsksOf (F.tries folder.old) (F.tries folder.new) }
 {
     let declared = target.catalog.dims.as_slice();
+    let mut ready = VecDeque::new(alloc);
     for i in 0..declared.len() {
-        save_dimension(alloc, folder, target, &declared[i], dims[i].as_slice())?;
+        let dim = write_dimension(alloc, folder, target, &declared[i], dims[i].as_slice())?;
+        ready.push_back(dim)?;
     }
-    Ok(())
+    Ok(ready)
 }
 
-// ---- all of them
+// ---- the cut
 
-fn save_cut<F: Folder>(
+/// Writes the file of the cut, and closes it. It stands under no path yet.
+fn write_cut_file<F: Folder>(
     alloc: Global,
     folder: &mut F,
     target: &Target<'_>,
     cut: &Cut,
-) -> Result<(), Refusal>
-    ensures written { OnOk result (WritesOne (cut_path target.now.directory.now)
-        (λ bytes. bytes ≡ sealed (cut_bytes (record { load = target.now.load; cut = cut.now })))
-        (F.wrote folder.old) (F.wrote folder.new)) }
-    ensures left { OnErr result (F.wrote folder.new ≡ F.wrote folder.old) }
+) -> Result<Ready<F::Closed>, Refusal>
+    ensures ready { IfOk result
+        (IsCutReady F.enclosed (F.wrote folder.old) target.now.directory.now target.now.load
+        cut.now) }
+    ensures same { F.wrote folder.new ≡ F.wrote folder.old }
     ensures refused { IfErr result (IsUnwritten (cut_path target.now.directory.now)) }
     ensures unwritten { IfErr result (IsTriedFor (F.tries folder.old)) }
+    ensures trying { AsksOf (F.tries folder.old) (F.tries folder.new) }
 {
     let path = cut_path(alloc, target.directory)?;
     let mut file = create_file(folder, &path)?;
     match write_cut(target.load, cut, &mut file) {
-        Ok(()) => finish_file(folder, &path, file),
+        Ok(()) => close_ready(folder, path, file),
         Err(fault) => Err(refusal_of_file(&path, fault)),
     }
 }
 
-/// Puts the fragments' files under their paths, and writes those of the dimensions; then takes away
-/// the files of fragments that the cut doesn't have, and writes that of the cut.
+fn close_ready<F: Folder>(
+    folder: &mut F,
+    path: Text,
+    file: F::Writer,
+) -> Result<Ready<F::Closed>, Refusal>
+    ensures path { IfOk result (λ ready. ready.path ≡ path) }
+    ensures closed { IfOk result (λ ready. F.enclosed ready.file ≡ F.Writer.contents file) }
+    ensures same { F.wrote folder.new ≡ F.wrote folder.old }
+    ensures refused { IfErr result (IsUnwritten path) }
+    ensures trying { AsksOf (F.tries folder.old) (F.tries folder.new) }
+{
+    let file = close_file(folder, &path, file)?;
+    Ok(Ready { path, file })
+}
+
+// ---- all of them
+
+/// Puts a closed file under its path.
+fn put_ready<F: Folder>(folder: &mut F, ready: Ready<F::Closed>) -> Result<(), Refusal>
+    ensures written { OnOk result
+        (Finishes (F.wrote folder.old) (F.wrote folder.new) ready.path (F.enclosed ready.file)) }
+    ensures left { OnErr result (F.wrote folder.new ≡ F.wrote folder.old) }
+    ensures refused { IfErr result (IsUnwritten ready.path) }
+    ensures stuck { IfErr result (IsStuck F.stays) }
+    ensures unwritten { IfErr result (IsTriedFor (F.tries folder.old)) }
+    ensures trying { AsksOf (F.tries folder.old) (F.tries folder.new) }
+{
+    let Ready { path, file } = ready;
+    put_file(folder, &path, file)
+}
+
+/// Puts closed files under their paths, one after the other.
+fn put_all<F: Folder>(folder: &mut F, files: VecDeque<Ready<F::Closed>>) -> Result<(), Refusal>
+    ensures written { OnOk result (AreKnown F.enclosed files.items
+        → Writes (λ changes. changes ≡ map (put F.enclosed) files.items) (F.wrote folder.old)
+        (F.wrote folder.new)) }
+    ensures left { OnErr result (AreKnown F.enclosed files.items
+        → Writes (AreFirst (map (put F.enclosed) files.items)) (F.wrote folder.old)
+        (F.wrote folder.new)) }
+    ensures refused { IfErr result (IsNotPut files.items) }
+    ensures stuck { IfErr result (IsStuck F.stays) }
+    ensures unwritten { IfErr result (IsTriedFor (F.tries folder.old)) }
+    ensures trying { AsksOf (F.tries folder.old) (F.tries folder.new) }
+{
+    let mut files = files;
+    while let Some(ready) = files.pop_front() {
+        put_ready(folder, ready)?;
+    }
+    Ok(())
+}
+
+/// Takes the files of these paths away, where there are such.
+fn remove_all<F: Folder>(folder: &mut F, paths: &[Text]) -> Result<(), Refusal>
+    ensures removed { OnOk result (Writes (λ changes. changes ≡ map gone paths.now)
+        (F.wrote folder.old) (F.wrote folder.new)) }
+    ensures left { OnErr result (Writes (AreFirst (map gone paths.now)) (F.wrote folder.old)
+        (F.wrote folder.new)) }
+    ensures refused { IfErr result (IsNotGone paths.now) }
+    ensures stuck { IfErr result (IsStuck F.stays) }
+    ensures unwritten { IfErr result (IsTriedFor (F.tries folder.old)) }
+    ensures trying { AsksOf (F.tries folder.old) (F.tries folder.new) }
+{
+    for path in paths {
+        remove_file(folder, path)?;
+    }
+    Ok(())
+}
+
+/// Puts the files of the fragments and of the dimensions under their paths, takes those of these
+/// paths away, and then puts that of the cut under its path.
+fn put_files<F: Folder>(
+    folder: &mut F,
+    fragments: VecDeque<Ready<F::Closed>>,
+    dims: VecDeque<Ready<F::Closed>>,
+    others: &[Text],
+    cut: Ready<F::Closed>,
+) -> Result<(), Refusal>
+    ensures written { OnOk result (AreKnown F.enclosed fragments.items
+        → AreKnown F.enclosed dims.items → AreKnown F.enclosed (cut ∷ [])
+        → Writes (λ changes. changes ≡ ((map (put F.enclosed) fragments.items
+        ++ map (put F.enclosed) dims.items) ++ map gone others.now) ++ put F.enclosed cut ∷ [])
+        (F.wrote folder.old) (F.wrote folder.new)) }
+    ensures left { OnErr result (AreKnown F.enclosed fragments.items
+        → AreKnown F.enclosed dims.items
+        → Writes (AreFirstOfThree (map (put F.enclosed) fragments.items)
+        (map (put F.enclosed) dims.items) (map gone others.now))
+        (F.wrote folder.old) (F.wrote folder.new)) }
+    ensures refused { IfErr result (λ e. IsNotPut fragments.items e ⊎ IsNotPut dims.items e
+        ⊎ IsNotGone others.now e ⊎ IsUnwritten cut.path e) }
+    ensures stuck { IfErr result (IsStuck F.stays) }
+    ensures unwritten { IfErr result (IsTriedFor (F.tries folder.old)) }
+{
+    put_all(folder, fragments)?;
+    put_all(folder, dims)?;
+    remove_all(folder, others)?;
+    put_ready(folder, cut)
+}
+
+/// The same with the fragments' closed files. All paths are made first, so that memory can't run out
+/// in the middle.
+fn put_under_paths<F: Folder>(
+    alloc: Global,
+    folder: &mut F,
+    target: &Target<'_>,
+    cut: &Cut,
+    files: VecDeque<F::Closed>,
+    dims: VecDeque<Ready<F::Closed>>,
+    cut_file: Ready<F::Closed>,
+) -> Result<(), Refusal>
+    requires files { length files.items ≡ length cut.now }
+    requires cut_ready { IsCutReady F.enclosed (F.wrote folder.old) target.now.directory.now
+        target.now.load cut.now cut_file }
+    ensures written { OnOk result ((fragments columns : List (List ColumnSpec))
+        → AreFragmentsClosed F.enclosed (F.wrote folder.old) target.now.load
+        target.now.catalog.now.fact cut.now fragments files.items
+        → AreEach (IsDimensionReady F.enclosed (F.wrote folder.old) target.now.directory.now
+        target.now.load) (zip target.now.catalog.now.dims columns) dims.items
+        → Writes (AreFiles target.now.directory.now target.now.load target.now.catalog.now cut.now
+        fragments columns) (F.wrote folder.old) (F.wrote folder.new)) }
+    ensures left { OnErr result ((fragments columns : List (List ColumnSpec))
+        → AreFragmentsClosed F.enclosed (F.wrote folder.old) target.now.load
+        target.now.catalog.now.fact cut.now fragments files.items
+        → AreEach (IsDimensionReady F.enclosed (F.wrote folder.old) target.now.directory.now
+        target.now.load) (zip target.now.catalog.now.dims columns) dims.items
+        → Writes (AreFilesBegun target.now.directory.now target.now.load target.now.catalog.now
+        cut.now fragments columns) (F.wrote folder.old) (F.wrote folder.new)) }
+    ensures refused { IfErr result (λ e. (columns : List (List ColumnSpec))
+        → AreEach (IsDimensionReady F.enclosed (F.wrote folder.old) target.now.directory.now
+        target.now.load) (zip target.now.catalog.now.dims columns) dims.items
+        → AreFilesUnwritten target.now.directory.now target.now.catalog.now cut.now e) }
+    ensures whole { IfErr result (λ e. (F.wrote folder.new ≡ F.wrote folder.old)
+        ⊎ IsStuck F.stays e) }
+    ensures unwritten { IfErr result (IsTriedFor (F.tries folder.old)) }
+{
+    // No effect at run time. The proof reads from this call the limits of a cut.
+    let _lengths = cut.lengths();
+    let fragments = ready_fragments(alloc, target, files)?;
+    let others = removal_paths(alloc, target, cut)?;
+    put_files(folder, fragments, dims, others.as_slice(), cut_file)
+}
+
+/// Writes and closes the files of the dimensions and that of the cut. Then all files are put under
+/// their paths: those of the fragments, those of the dimensions and, once the files of fragments are
+/// taken away that the cut doesn't have, that of the cut.
 ///
 /// # Errors
 ///
-/// Out of memory, or the first file that cannot be written or taken away. Those before it stay as
-/// they are written.
+/// Out of memory, or the first file that cannot be written or taken away. No path has changed then,
+/// unless a closed file could not be put under its path, or one could not be taken away: those before
+/// it stay as they are.
 pub fn save<F: Folder>(
     alloc: Global,
     folder: &mut F,
@@ -338,12 +421,11 @@ pub fn save<F: Folder>(
         cut.now fragments dims.now) (F.wrote folder.old) (F.wrote folder.new)) }
     ensures refused { IfErr result
         (AreFilesUnwritten target.now.directory.now target.now.catalog.now cut.now) }
+    ensures whole { IfErr result (λ e. (F.wrote folder.new ≡ F.wrote folder.old)
+        ⊎ IsStuck F.stays e) }
     ensures unwritten { IfErr result (IsTriedFor (F.tries folder.old)) }
 {
-    // No effect at run time. The proof reads from this call the limits of a cut.
-    let _lengths = cut.lengths();
-    put_fragments(alloc, folder, target, files)?;
-    save_dimensions(alloc, folder, target, dims)?;
-    remove_fragments(alloc, folder, target, cut)?;
-    save_cut(alloc, folder, target, cut)
+    let ready = write_dimensions(alloc, folder, target, dims)?;
+    let cut_file = write_cut_file(alloc, folder, target, cut)?;
+    put_under_paths(alloc, folder, target, cut, files, ready, cut_file)
 }

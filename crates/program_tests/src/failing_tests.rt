@@ -48,25 +48,26 @@ fn expect_steps(
     Ok(())
 }
 
-// Three fragments are created and closed, then finished; the dimension is created, closed and
-// finished; the files of 4,093 fragments are taken away; and the cut is created, closed and
-// finished.
+// Three fragments, the dimension and the cut are created and closed; then the fragments and the
+// dimension are finished, the files of 4,093 fragments are taken away, and the cut is finished.
 const STEPS: &[(u32, &str, usize)] = &[
     (0, "1 [] [xcols: cannot write sales/sales.0.xcf\n]", 0),
     (1, "1 [] [xcols: cannot write sales/sales.0.xcf\n]", 0),
     (2, "1 [] [xcols: cannot write sales/sales.1.xcf\n]", 0),
     (5, "1 [] [xcols: cannot write sales/sales.2.xcf\n]", 0),
-    (6, "1 [] [xcols: cannot write sales/sales.0.xcf\n]", 0),
-    (8, "1 [] [xcols: cannot write sales/sales.2.xcf\n]", 2),
-    (9, "1 [] [xcols: cannot write sales/store.xcf\n]", 3),
-    (11, "1 [] [xcols: cannot write sales/store.xcf\n]", 3),
-    (12, "1 [] [xcols: cannot write sales/sales.3.xcf\n]", 4),
+    (6, "1 [] [xcols: cannot write sales/store.xcf\n]", 0),
+    (7, "1 [] [xcols: cannot write sales/store.xcf\n]", 0),
+    (8, "1 [] [xcols: cannot write sales/cut.xcl\n]", 0),
+    (9, "1 [] [xcols: cannot write sales/cut.xcl\n]", 0),
+    (10, "1 [] [xcols: cannot write sales/sales.0.xcf\n]", 0),
+    (12, "1 [] [xcols: cannot write sales/sales.2.xcf\n]", 2),
+    (13, "1 [] [xcols: cannot write sales/store.xcf\n]", 3),
+    (14, "1 [] [xcols: cannot write sales/sales.3.xcf\n]", 4),
     (
-        4_104,
+        4_106,
         "1 [] [xcols: cannot write sales/sales.4095.xcf\n]",
         4,
     ),
-    (4_105, "1 [] [xcols: cannot write sales/cut.xcl\n]", 4),
     (4_107, "1 [] [xcols: cannot write sales/cut.xcl\n]", 4),
     (4_108, "0 [loaded 5 rows in 3 fragments\n] []", 5),
 ];

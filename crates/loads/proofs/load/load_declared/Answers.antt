@@ -11,6 +11,7 @@ use Rattle.loads.proofs.Finished.{catalog_loaded, closed_count, left_behind, lef
 use Rattle.folders.proofs.Others.{other_tried}
 use Rattle.loads.proofs.Printed.{fact_apart}
 use Rattle.loads.proofs.Tried.{fact_other, tried_either}
+use Rattle.loads.proofs.Planned.{whole_behind}
 use Rattle.loads.proofs.load.load_declared.Goals as goal
 
 pub returns-in_err-fact-clause-refused : goal.returns-in_err-fact-clause-refused
@@ -79,3 +80,8 @@ pub returns-clause-unwritten : goal.returns-clause-unwritten
 returns-clause-unwritten g c =
     let F = g.F.Folder in
     tried_either (F.tries c.args.folder.now) (F.tries c.load_fact.new.folder) c.in_ok-fact.fact.files c.finish_load.result c.in_ok-fact.ensures.trying c.in_ok-fact.ensures.unwritten c.finish_load.ensures.unwritten
+
+pub returns-clause-whole : goal.returns-clause-whole
+returns-clause-whole g c =
+    let F = g.F.Folder in
+    whole_behind F.stays (F.wrote c.args.folder.now) (F.wrote c.load_fact.new.folder) (F.wrote c.finish_load.new.folder) c.finish_load.result c.in_ok-fact.ensures.same c.finish_load.ensures.whole

@@ -21,6 +21,7 @@ complete -c xcols -n '__fish_seen_subcommand_from whole' -l vector -r -f -d 'How
 complete -c xcols -n '__fish_seen_subcommand_from whole' -l progress -d 'Shows on standard error how far each file has been read'
 complete -c xcols -n __fish_use_subcommand -f -a init -d 'Writes catalog.txt for a folder of CSV files'
 complete -c xcols -n '__fish_seen_subcommand_from init' -l fact -r -f -d 'The fact table, which the others are joined to; else that of the largest file'
+complete -c xcols -n __fish_use_subcommand -f -a check -d 'Finds the first fault that a load of the CSV files would have'
 complete -c xcols -n __fish_use_subcommand -f -a explain -d 'Prints how a query is answered, or why it is refused'
 complete -c xcols -n '__fish_seen_subcommand_from explain' -l query -r -f -d 'The query, in SQL'
 complete -c xcols -n __fish_use_subcommand -f -a show -d 'Prints what a file holds, and where it is damaged'

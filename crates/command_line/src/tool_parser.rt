@@ -5,6 +5,8 @@ use std::alloc::{AllocError, Global};
 
 const INIT_EXAMPLE: &str = "Example:\n  xcols init examples/sales --fact sales";
 
+const CHECK_EXAMPLE: &str = "Example:\n  xcols check examples/sales";
+
 const EXPLAIN_EXAMPLE: &str =
     "Example:\n  xcols explain examples/sales --query \"SELECT COUNT(*) FROM sales\"";
 
@@ -26,6 +28,7 @@ pub fn with_tools<'a>(
     alloc: Global,
 ) -> Result<clap::Command<'a>, AllocError> {
     let parser = with_subcommand(parser, init_parser(alloc))?;
+    let parser = with_subcommand(parser, check_parser(alloc))?;
     let parser = with_subcommand(parser, explain_parser(alloc))?;
     let parser = with_subcommand(parser, show_parser(alloc))?;
     let parser = with_subcommand(parser, refusal_parser(alloc))?;
@@ -72,6 +75,16 @@ fn init_parser<'a>(alloc: Global) -> Result<clap::Command<'a>, AllocError> {
         .after_help(INIT_EXAMPLE);
     let parser = parser.arg(folder_arg(alloc, "Folder with a file NAME.csv for each table"))?;
     parser.arg(fact_arg(alloc))
+}
+
+fn check_parser<'a>(alloc: Global) -> Result<clap::Command<'a>, AllocError> {
+    let parser = clap::Command::new(alloc, "check")
+        .about("Finds the first fault that a load of the CSV files would have")
+        .after_help(CHECK_EXAMPLE);
+    parser.arg(folder_arg(
+        alloc,
+        "Folder with catalog.txt and, for each table, a file NAME.csv",
+    ))
 }
 
 fn explain_parser<'a>(alloc: Global) -> Result<clap::Command<'a>, AllocError> {

@@ -7,13 +7,13 @@ use Rattle.explain.specs.declared.placing.Place.TheVariants as place
 
 -- right at the lookup, or behind a condition that is tested on no dimension
 abbrev pub marks_words : Bool → List ℕ
-marks_words leads = if leads then codes ", by marks at its lookup" else codes ", by marks in this place"
+marks_words leads = if leads then codes ", before the join" else codes ", applied after the conditions above"
 
 -- the words for a place; whose rows or blocks they are is said by a name
 abbrev pub IsPlaceText : Place → Bool → List ℕ → Type 0
-IsPlaceText (place.Dimension join) leads text = (table : List ℕ) × (text ≡ codes "ahead on the rows of " ++ (table ++ marks_words leads))
-IsPlaceText (place.Blocks column) leads text = (name : List ℕ) × (text ≡ codes "on blocks of " ++ (name ++ codes " that have entries, else on rows"))
-IsPlaceText place.Rows leads text = text ≡ codes "on rows"
+IsPlaceText (place.Dimension join) leads text = (table : List ℕ) × (text ≡ codes "once for each row of " ++ (table ++ marks_words leads))
+IsPlaceText (place.Blocks column) leads text = (name : List ℕ) × (text ≡ codes "once for each dictionary entry or run of " ++ (name ++ codes ", else row by row"))
+IsPlaceText place.Rows leads text = text ≡ codes "row by row"
 
 -- so many steps of two blanks
 unfoldable pub blanks_text : ℕ → List ℕ

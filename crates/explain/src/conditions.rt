@@ -13,9 +13,9 @@ fn marks_words(leads: bool) -> &'static str
     ensures { result.now ≡ marks_words leads }
 {
     if leads {
-        ", by marks at its lookup"
+        ", before the join"
     } else {
-        ", by marks in this place"
+        ", applied after the conditions above"
     }
 }
 
@@ -23,7 +23,7 @@ fn marks_text(alloc: Global, table: &str, join: usize, leads: bool) -> Result<St
     ensures { IfOk result (λ text. IsPlaceText (Place.Dimension join) leads (string_bytes text)) }
 {
     let words = marks_words(leads);
-    format!(in alloc; "ahead on the rows of {table}{words}")
+    format!(in alloc; "once for each row of {table}{words}")
 }
 
 fn dimension_text(
@@ -51,7 +51,7 @@ fn blocks_text(
     let mut name = String::new(alloc);
     names.put_column(&mut name, &names.fact, column)?;
     let name = name.as_str();
-    format!(in alloc; "on blocks of {name} that have entries, else on rows")
+    format!(in alloc; "once for each dictionary entry or run of {name}, else row by row")
 }
 
 /// How a condition is tested.
@@ -66,7 +66,7 @@ fn place_text(
     match place {
         Place::Dimension(join) => dimension_text(alloc, names, join, leads),
         Place::Blocks(column) => blocks_text(alloc, names, column, leads),
-        Place::Rows => String::from_str(alloc, "on rows"),
+        Place::Rows => String::from_str(alloc, "row by row"),
     }
 }
 

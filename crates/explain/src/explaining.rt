@@ -123,10 +123,17 @@ pub fn explanation<F: Folder, O: Write>(
 }
 
 /// Writes the line of a refusal, the query with the place at which it is refused, and what it means.
-fn report<E: Write>(refusal: &Refusal, query: &str, err: &mut E) -> io::Result<()> {
+fn report<F: Folder, E: Write>(
+    alloc: Global,
+    folder: &F,
+    directory: &str,
+    query: &str,
+    refusal: &Refusal,
+    err: &mut E,
+) -> io::Result<()> {
     print_refusal(refusal, err)?;
-    point(refusal, query, err)?;
-    put_meaning(refusal, err)
+    let is_said = point(alloc, folder, directory, query, refusal, err)?;
+    put_meaning(refusal, is_said, err)
 }
 
 /// Prints the plan of a query over the tables that the folder's catalogue declares, and answers the
@@ -155,7 +162,7 @@ pub fn explain<F: Folder, O: Write, E: Write>(
         Ok(()) => 0,
         Err(refusal) => {
             // A closed standard error leaves nobody to print.
-            let _ = report(&refusal, query, err);
+            let _ = report(alloc, folder, directory, query, &refusal, err);
             1
         }
     }

@@ -1,61 +1,35 @@
-//! The place in a query at which it is refused, and what the refusal means.
-use folders::Refusal;
+//! What is said of a refusal under its line.
+use folders::{Folder, Refusal, read_tables};
+use query_hints::{put_plan_hint, put_sql_hint};
 use refusals::{Entry, Layer, entry_of};
-use sql_reader::SqlFault;
+use std::alloc::Global;
 use std::io;
 use std::io::Write;
+use std::mem::drop;
 
-/// The offset in the query that a refusal names.
-fn offset_of(refusal: &Refusal) -> Option<usize> {
+/// Writes the query's line at which it is refused, with a caret under the place, and what could be written
+/// there, where that is known; and gives whether that takes the place of the advice.
+pub fn point<F: Folder, E: Write>(
+    alloc: Global,
+    folder: &F,
+    directory: &str,
+    query: &str,
+    refusal: &Refusal,
+    err: &mut E,
+) -> io::Result<bool> {
     match refusal {
-        Refusal::Sql(SqlFault::UnknownCharacter { offset })
-        | Refusal::Sql(SqlFault::TextNotClosed { offset })
-        | Refusal::Sql(SqlFault::IntegerOutOfRange { offset })
-        | Refusal::Sql(SqlFault::UnexpectedToken { offset })
-        | Refusal::Sql(SqlFault::LeftOut { offset, .. }) => Some(*offset),
-        _ => None,
-    }
-}
-
-/// The line that has the byte of an offset, and the byte's offset in it.
-fn line_at(query: &str, offset: usize) -> (&str, usize) {
-    let mut first = 0usize;
-    for line in query.split('\n') {
-        let end = first.saturating_add(line.len());
-        if offset <= end {
-            return (line, offset.saturating_sub(first));
+        Refusal::Sql(fault) => put_sql_hint(alloc, query, fault, err),
+        Refusal::Plan(fault) => {
+            let Ok(catalog) = read_tables(alloc, folder, directory) else {
+                return Ok(false);
+            };
+            let put = put_plan_hint(alloc, &catalog, query, fault, err);
+            drop(catalog);
+            put?;
+            Ok(false)
         }
-        first = end.saturating_add(1);
+        _ => Ok(false),
     }
-    ("", 0)
-}
-
-/// What stands under a byte that lies before the place: nothing under those of a character but its
-/// first, and a tab under a tab.
-fn padding(byte: u8) -> &'static str {
-    match byte {
-        b'\t' => "\t",
-        0x80..=0xBF => "",
-        _ => " ",
-    }
-}
-
-fn put_caret<E: Write>(line: &str, at: usize, err: &mut E) -> io::Result<()> {
-    writeln!(err, "{line}")?;
-    for byte in line.bytes().take(at) {
-        err.write_all(padding(byte).as_bytes())?;
-    }
-    writeln!(err, "^")
-}
-
-/// Writes the query's line at which it is refused, with a caret under the place, where the refusal
-/// names one.
-pub fn point<E: Write>(refusal: &Refusal, query: &str, err: &mut E) -> io::Result<()> {
-    let Some(offset) = offset_of(refusal) else {
-        return Ok(());
-    };
-    let (line, at) = line_at(query, offset);
-    put_caret(line, at, err)
 }
 
 /// What is known of a refusal of a query or of its catalogue.
@@ -68,14 +42,22 @@ fn entry_of_refusal(refusal: &Refusal) -> Option<Entry> {
     }
 }
 
-/// Writes what a refusal means and what to do about it, where something is known of it.
-pub fn put_meaning<E: Write>(refusal: &Refusal, err: &mut E) -> io::Result<()> {
+// The advice without what it says of this command.
+fn advice_here(advice: &str) -> &str {
+    match advice.split_once("; `xcols explain") {
+        Some((before, _)) => before,
+        None => advice,
+    }
+}
+
+/// Writes what a refusal means and, unless that was said, what to do about it, where something is known.
+pub fn put_meaning<E: Write>(refusal: &Refusal, is_said: bool, err: &mut E) -> io::Result<()> {
     let Some(entry) = entry_of_refusal(refusal) else {
         return Ok(());
     };
     writeln!(err, "means: {}", entry.meaning)?;
-    if entry.advice.is_empty() {
+    if is_said || entry.advice.is_empty() {
         return Ok(());
     }
-    writeln!(err, "what to do: {}", entry.advice)
+    writeln!(err, "what to do: {}", advice_here(entry.advice))
 }

@@ -1,5 +1,5 @@
 -- What is said of the choices that a catalogue is made by.
-use Rattle.std.specs.Prelude.{◌≡◌, ℕ, List, [], ◌∷◌, ◌++◌, codes, slice_get, Option, None, Some, Ok}
+use Rattle.std.specs.Prelude.{◌≡◌, ℕ, List, [], ◌∷◌, ◌++◌, codes, decimal, if◌then◌else◌, slice_get, Option, None, Some, Ok}
 use Rattle.std.specs.Io.KnownBytes.{Appends}
 use Rattle.std.specs.List.{join_by}
 use Rattle.meaning.specs.declared.catalog.Catalog.{Catalog}
@@ -12,6 +12,9 @@ use Rattle.folders.specs.Folder.{Holds, csv_path}
 use Rattle.init.specs.declared.reporting.Reason.{Reason}
 use Rattle.init.specs.declared.reporting.Reason.TheVariants.{Asked, Largest}
 use Rattle.init.specs.Keys.{keys_of}
+use Rattle.init.specs.declared.looks.Evidence.{Evidence}
+use Rattle.init.specs.declared.looks.Look.{Look}
+use Rattle.init.specs.declared.looks.Look.TheVariants as look
 
 -- ---- the fact
 
@@ -72,6 +75,30 @@ abbrev pub SaysDimensions : Holds → List ℕ → List ℕ → Option (List ℕ
 SaysDimensions holds folder text before after = (catalog : Catalog) × (catalog_of text ≡ Ok catalog) × (said : List ℕ) × AreSaid holds folder catalog.dims said × Appends before after said
 
 -- a line for the fact that the text declares, and one for each dimension
-abbrev pub SaysChoices : Holds → List ℕ → Option (List ℕ) → List ℕ → Option (List ℕ) → Option (List ℕ) → Type 0
-SaysChoices holds folder asked text before after =
+abbrev pub SaysTables : Holds → List ℕ → Option (List ℕ) → List ℕ → Option (List ℕ) → Option (List ℕ) → Type 0
+SaysTables holds folder asked text before after =
     (catalog : Catalog) × (catalog_of text ≡ Ok catalog) × (said : List ℕ) × AreSaid holds folder catalog.dims said × Appends before after (fact_line (reason_of asked) catalog.fact.name ++ said)
+
+-- ---- columns that are texts
+
+-- what the look of a field says of its column
+abbrev pub words_text : Look → List ℕ
+words_text look.Padded = codes ", whose zeros an integer would lose"
+words_text _ = []
+
+-- the first field of a column that is no integer, with its line and what its look says
+abbrev pub text_line : List ℕ → List ℕ → ℕ → List ℕ → List ℕ → List ℕ
+text_line column table line shown words = column ++ (codes " is text: " ++ (table ++ (codes ".csv line " ++ (decimal line ++ (codes " has " ++ (shown ++ (words ++ codes "\n")))))))
+
+-- what all fields of a column look like
+abbrev pub looks_text : Evidence → List ℕ
+looks_text evidence = if evidence.decimals then codes " looks like decimals: there are only integers, so store cents, as 1990 for 19.90"
+    else (if evidence.dates then codes " looks like dates: they are texts, which sort and compare rightly as YYYY-MM-DD" else [])
+
+-- notes come behind what was said
+abbrev pub AddsNotes : Option (List ℕ) → Option (List ℕ) → Type 0
+AddsNotes before after = (notes : List ℕ) × Appends before after notes
+
+-- the lines of the tables, and behind them notes on the columns that are texts
+abbrev pub SaysChoices : Holds → List ℕ → Option (List ℕ) → List ℕ → Option (List ℕ) → Option (List ℕ) → Type 0
+SaysChoices holds folder asked text before after = (between : Option (List ℕ)) × SaysTables holds folder asked text before between × AddsNotes between after

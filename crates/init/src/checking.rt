@@ -127,7 +127,8 @@ fn check_fact_file<F: Folder>(
     }
 }
 
-fn check_fact<F: Folder>(
+/// Loads the fact's file, however its rows are cut, and keeps nothing of it.
+pub fn check_fact<F: Folder>(
     alloc: Global,
     folder: &F,
     directory: &str,
@@ -181,7 +182,8 @@ fn check_dimension_file<F: Folder>(
     }
 }
 
-fn check_dimension<F: Folder>(
+/// Loads a dimension's file, and keeps nothing of it.
+pub fn check_dimension<F: Folder>(
     alloc: Global,
     folder: &F,
     directory: &str,

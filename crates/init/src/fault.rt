@@ -31,12 +31,15 @@ impl PathFault {
         match self {
             PathFault::CannotRead => ("cannot read ", ""),
             PathFault::CannotWrite => ("cannot write ", ""),
-            PathFault::CatalogThere => ("", " is there already, and is never written over"),
+            PathFault::CatalogThere => (
+                "",
+                " is there already, and is never written over: edit it, or remove it first",
+            ),
             PathFault::NoFile => ("", " has no CSV file"),
             PathFault::NoFact => ("there is no file ", " for the fact"),
             PathFault::NoTableName => (
                 "",
-                " has no name of a table: at most 64 lower-case letters, digits and underscores, no digit in front, no word of SQL",
+                " can't be named after a table: a name has at most 64 lower-case letters, digits and underscores, no digit in front, and is no word of SQL",
             ),
             PathFault::NoHeader => ("", " has no header"),
             PathFault::TooManyColumns => ("", " has over 64 columns"),
@@ -61,7 +64,7 @@ impl ColumnFault {
     fn words(self) -> &'static str {
         match self {
             ColumnFault::NoName => {
-                "has no name: at most 64 letters, digits and underscores, no digit in front, no word of SQL"
+                "can't be named as in the header: a name has at most 64 letters, digits and underscores, no digit in front, and is no word of SQL"
             }
             ColumnFault::NameTwice => "has the name of one before it",
         }

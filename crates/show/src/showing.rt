@@ -343,7 +343,7 @@ fn show_bytes<O: Write, E: Write>(
 {
     match kind_of(bytes) {
         Some(kind) => show_kind(alloc, kind, path, bytes, options, out, err),
-        None => refuse("", path, " begins as no file of xcols", err),
+        None => refuse("", path, " isn't a file that xcols wrote", err),
     }
 }
 

@@ -11,12 +11,13 @@ use Rattle.init.specs.declared.listing.CsvFile.{CsvFile}
 use Rattle.init.specs.Guessing.{IsGuessable}
 use Rattle.init.specs.Making.{IsAsAsked, IsCatalogFor}
 use Rattle.init.specs.Saying.{SaysChoices}
+use Rattle.load_check.specs.Checking.{IsFolderFit, fit_line}
 use Rattle.show.specs.declared.showing.ShowOptions.{ShowOptions}
 use Rattle.show.specs.Shown.{HoldsFile, IsWhole, PrintsPartsOf}
 use Rattle.tools.specs.Explained.{PrintsEntry}
 use Rattle.tools.specs.declared.words.ShowWords.{ShowWords}
 use Rattle.tools.specs.declared.words.Tool.{Tool}
-use Rattle.tools.specs.declared.words.Tool.TheVariants.{Explain, Init, Refusal, Show, Version}
+use Rattle.tools.specs.declared.words.Tool.TheVariants.{Check, Explain, Init, Refusal, Show, Version}
 
 -- a tool ends with 0 or 1
 abbrev pub IsStatus : ℕ → Type 0
@@ -43,11 +44,16 @@ abbrev pub ShowsFile : Holds → List ℕ → ℕ → Option (List Change) → O
 ShowsFile holds path status before after =
     (after ≡ before) × (status ≡ 0 → (bytes : List ℕ) × AreHeld (holds path) bytes × IsWhole bytes)
 
+-- no file has changed, and with the status 0 the folder's tables load
+abbrev pub ChecksFolder : Holds → List ℕ → ℕ → Option (List Change) → Option (List Change) → Type 0
+ChecksFolder holds folder status before after = (after ≡ before) × (status ≡ 0 → IsFolderFit holds folder)
+
 abbrev pub LeavesFiles : Holds → (List ℕ → List CsvFile → Type 0) → Tool → ℕ → Option (List Change) → Option (List Change) → Type 0
 LeavesFiles holds lists (Init words) status before after = MakesCatalog holds lists words.folder words.fact status before after
 LeavesFiles holds lists (Refusal words) status before after = after ≡ before
 LeavesFiles holds lists (Explain words) status before after = ExplainsPlan holds words.folder words.query status before after
 LeavesFiles holds lists (Show words) status before after = ShowsFile holds words.path status before after
+LeavesFiles holds lists (Check words) status before after = ChecksFolder holds words.folder status before after
 LeavesFiles holds lists Version status before after = after ≡ before
 
 -- what was chosen for the catalogue that was written is said
@@ -61,6 +67,7 @@ LeavesErrors holds (Init words) wrote_before wrote_after before after = SaysCata
 LeavesErrors holds (Refusal words) wrote_before wrote_after before after = after ≡ before
 LeavesErrors holds (Explain words) wrote_before wrote_after before after = after ≡ before
 LeavesErrors holds (Show words) wrote_before wrote_after before after = after ≡ before
+LeavesErrors holds (Check words) wrote_before wrote_after before after = after ≡ before
 LeavesErrors holds Version wrote_before wrote_after before after = after ≡ before
 
 -- The query has no plan for this reason, and nothing was printed unless standard output failed. A file that can't be read was asked
@@ -83,6 +90,10 @@ abbrev pub PrintsFile : Holds → ShowWords → ℕ → Option (List ℕ) → Op
 PrintsFile holds words status before after =
     ((after ≡ before) ⊎ HoldsFile holds words.path) × (status ≡ 0 → PrintsPartsOf holds words.path (options_of words) before after)
 
+-- with the status 0 it is said that there is no fault
+abbrev pub PrintsFit : List ℕ → ℕ → Option (List ℕ) → Option (List ℕ) → Type 0
+PrintsFit folder status before after = status ≡ 0 → Appends before after (fit_line folder)
+
 -- the line of the version
 abbrev pub version_line : List ℕ
 version_line = codes "xcols " ++ VERSION.now ++ codes "\n"
@@ -96,4 +107,5 @@ LeavesOutput holds asks (Init words) status before after = after ≡ before
 LeavesOutput holds asks (Refusal words) status before after = PrintsEntry words status before after
 LeavesOutput holds asks (Explain words) status before after = PrintsExplanation holds asks words.folder words.query status before after
 LeavesOutput holds asks (Show words) status before after = PrintsFile holds words status before after
+LeavesOutput holds asks (Check words) status before after = PrintsFit words.folder status before after
 LeavesOutput holds asks Version status before after = PrintsVersion status before after

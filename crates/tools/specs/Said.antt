@@ -5,7 +5,7 @@ use Rattle.command_line.specs.Words.{AreParts, Named, Word, are_among}
 use Rattle.command_line.specs.declared.usage_fault.UsageFault.{UsageFault}
 use Rattle.command_line.specs.declared.usage_fault.UsageFault.TheVariants.{Memory}
 use Rattle.tools.specs.declared.words.Tool.{Tool}
-use Rattle.tools.specs.declared.words.Tool.TheVariants.{Explain, Init, Refusal, Show, Version}
+use Rattle.tools.specs.declared.words.Tool.TheVariants.{Check, Explain, Init, Refusal, Show, Version}
 use Rattle.tools.specs.Words.{asks_version}
 
 -- the tool's name is this word; the version has none, as it isn't asked for by a name
@@ -14,6 +14,7 @@ HasName name (Init words) = codes "init" ≡ name
 HasName name (Refusal words) = codes "refusal" ≡ name
 HasName name (Explain words) = codes "explain" ≡ name
 HasName name (Show words) = codes "show" ≡ name
+HasName name (Check words) = codes "check" ≡ name
 HasName name Version = ⊥
 
 -- the options that the tool may have
@@ -22,6 +23,7 @@ options_of (Init words) = codes "fact" ∷ []
 options_of (Refusal words) = []
 options_of (Explain words) = codes "query" ∷ []
 options_of (Show words) = codes "rows" ∷ []
+options_of (Check words) = []
 options_of Version = []
 
 -- its flags
@@ -30,6 +32,7 @@ flags_in (Init words) = []
 flags_in (Refusal words) = []
 flags_in (Explain words) = []
 flags_in (Show words) = if words.groups then codes "groups" ∷ [] else []
+flags_in (Check words) = []
 flags_in Version = []
 
 -- its words that are no options
@@ -38,6 +41,7 @@ plain_words (Init words) = words.folder ∷ []
 plain_words (Refusal words) = words
 plain_words (Explain words) = words.folder ∷ []
 plain_words (Show words) = words.path ∷ []
+plain_words (Check words) = words.folder ∷ []
 plain_words Version = []
 
 -- what its options say
@@ -46,6 +50,7 @@ HasOptions named (Init words) = HasTextOrNone (codes "fact") named words.fact
 HasOptions named (Refusal words) = ⊤
 HasOptions named (Explain words) = HasText (codes "query") named words.query
 HasOptions named (Show words) = HasNumberOrNone (codes "rows") named words.rows
+HasOptions named (Check words) = ⊤
 HasOptions named Version = ⊤
 
 -- the line of a refusal has a word
@@ -54,6 +59,7 @@ HasLine (Init words) = ⊤
 HasLine (Refusal words) = 1 ≤ length words
 HasLine (Explain words) = ⊤
 HasLine (Show words) = ⊤
+HasLine (Check words) = ⊤
 HasLine Version = ⊤
 
 -- the tool of that name, with these options, flags and plain words

@@ -2,8 +2,8 @@
 use Rattle.std.specs.Prelude.{ℕ, Bool, false, ◌||◌, if◌then◌else◌, List, [], ◌∷◌, codes, bytes_eq}
 
 abbrev pub is_tool : List ℕ → Bool
-is_tool word = (((bytes_eq word (codes "init") || bytes_eq word (codes "explain")) || bytes_eq word (codes "show"))
-    || bytes_eq word (codes "refusal")) || bytes_eq word (codes "tools")
+is_tool word = ((((bytes_eq word (codes "init") || bytes_eq word (codes "explain")) || bytes_eq word (codes "show"))
+    || bytes_eq word (codes "refusal")) || bytes_eq word (codes "check")) || bytes_eq word (codes "tools")
 
 -- the first of these words is a tool's
 abbrev pub begins_with_tool : List (List ℕ) → Bool

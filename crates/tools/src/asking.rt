@@ -6,7 +6,7 @@ ghost use Rattle.tools.specs.Said.{AreNamed, AreWordsOf, IsMadeOf, IsOf, IsReadO
 ghost use Rattle.tools.specs.declared.words.Tool.TheVariants.{Version};
 ghost use Rattle.tools.specs.Words.{asks_tool, asks_version, begins_with_tool, is_tool, names_tool};
 
-use crate::words::{ExplainWords, InitWords, ShowWords, Tool};
+use crate::words::{CheckWords, ExplainWords, InitWords, ShowWords, Tool};
 use command_line::{Parts, UsageFault, list_of_tools, parts_of, text_if_any, texts};
 use meaning::Text;
 use std::alloc::{AllocError, Global};
@@ -14,7 +14,12 @@ use std::alloc::{AllocError, Global};
 fn is_tool(word: &str) -> bool
     ensures { result ≡ is_tool word.now }
 {
-    word == "init" || word == "explain" || word == "show" || word == "refusal" || word == "tools"
+    word == "init"
+        || word == "explain"
+        || word == "show"
+        || word == "refusal"
+        || word == "check"
+        || word == "tools"
 }
 
 fn begins_with_tool(words: &[&str]) -> bool
@@ -119,6 +124,7 @@ fn of_name(alloc: Global, name: &str, parts: &Parts<'_>) -> Result<Option<Tool>,
         "explain" => explain_of(alloc, parts),
         "show" => show_of(alloc, parts),
         "refusal" => refusal_of(alloc, parts),
+        "check" => check_of(alloc, parts),
         _ => Ok(None),
     }
 }
@@ -145,6 +151,26 @@ fn init_of(alloc: Global, parts: &Parts<'_>) -> Result<Option<Tool>, AllocError>
     let fact = text_if_any(alloc, fact)?;
     let folder = Text::new(alloc, folder)?;
     Ok(Some(Tool::Init(InitWords { folder, fact })))
+}
+
+fn check_of(alloc: Global, parts: &Parts<'_>) -> Result<Option<Tool>, AllocError>
+    ensures said { IfOk result
+        (λ o. IfSome o (IsOf (codes "check") (given_of parts.now)
+        (flags_of parts.now) (plain_of parts.now))) }
+    ensures only { IfOk result (IsMadeOf (codes "check") (given_of parts.now)
+        (flags_of parts.now) (plain_of parts.now)) }
+{
+    if !parts.has_only(&[]) {
+        return Ok(None);
+    }
+    if !parts.has_no_flag() {
+        return Ok(None);
+    }
+    let Some(folder) = parts.only_word() else {
+        return Ok(None);
+    };
+    let folder = Text::new(alloc, folder)?;
+    Ok(Some(Tool::Check(CheckWords { folder })))
 }
 
 fn explain_of(alloc: Global, parts: &Parts<'_>) -> Result<Option<Tool>, AllocError>

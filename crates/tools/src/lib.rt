@@ -8,4 +8,4 @@ mod words;
 
 pub use asking::asked;
 pub use running::run;
-pub use words::{ExplainWords, InitWords, ShowWords, Tool};
+pub use words::{CheckWords, ExplainWords, InitWords, ShowWords, Tool};

@@ -1,14 +1,15 @@
 //! Runs a tool and gives its exit status.
 ghost use Rattle.std.specs.Prelude.{◌≡◌, OnOk, option_map};
 ghost use Rattle.tools.specs.Explained.{PrintsEntry, PrintsExplained};
-ghost use Rattle.tools.specs.Running.{ExplainsPlan, IsStatus, LeavesErrors, LeavesFiles, LeavesOutput, MakesCatalog, PrintsExplanation, PrintsFile, PrintsVersion, SaysCatalog, ShowsFile};
+ghost use Rattle.tools.specs.Running.{ChecksFolder, ExplainsPlan, IsStatus, LeavesErrors, LeavesFiles, LeavesOutput, MakesCatalog, PrintsExplanation, PrintsFile, PrintsFit, PrintsVersion, SaysCatalog, ShowsFile};
 
 use crate::explaining::{Explanation, explanation_of};
-use crate::words::{ExplainWords, InitWords, ShowWords, Tool};
+use crate::words::{CheckWords, ExplainWords, InitWords, ShowWords, Tool};
 use command_line::VERSION;
 use explain::explain;
 use folders::Folder;
 use init::{InitFault, Listing, make_catalog};
+use load_check::check;
 use meaning::Text;
 use refusals::{print_codes, print_known};
 use show::{ShowOptions, show};
@@ -91,6 +92,22 @@ fn run_refusal<O: Write, E: Write>(alloc: Global, words: &[Text], out: &mut O, e
     }
 }
 
+fn run_check<F: Folder, O: Write, E: Write>(
+    alloc: Global,
+    words: &CheckWords,
+    folder: &mut F,
+    out: &mut O,
+    err: &mut E,
+) -> u8
+    ensures status { IsStatus result }
+    ensures files { ChecksFolder (F.holds folder.old) words.now.folder result (F.wrote folder.old)
+        (F.wrote folder.new) }
+    ensures silent { result ≡ 0 → E.contents err.new ≡ E.contents err.old }
+    ensures output { PrintsFit words.now.folder result (O.contents out.old) (O.contents out.new) }
+{
+    check(alloc, &*folder, words.folder.as_str(), out, err)
+}
+
 fn run_version<O: Write, E: Write>(out: &mut O, err: &mut E) -> u8
     ensures status { IsStatus result }
     ensures silent { result ≡ 0 → E.contents err.new ≡ E.contents err.old }
@@ -167,6 +184,7 @@ pub fn run<F: Folder + Listing, O: Write, E: Write>(
         Tool::Refusal(words) => run_refusal(alloc, words.as_slice(), out, err),
         Tool::Explain(words) => run_explain(alloc, words, folder, out, err),
         Tool::Show(words) => run_show(alloc, words, folder, out, err),
+        Tool::Check(words) => run_check(alloc, words, folder, out, err),
         Tool::Version => run_version(out, err),
     }
 }

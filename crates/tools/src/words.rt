@@ -12,6 +12,8 @@ pub enum Tool {
     Explain(ExplainWords),
     /// To print what stands in a file.
     Show(ShowWords),
+    /// To say the first fault that a load of a folder's tables would have.
+    Check(CheckWords),
     /// To print the program's version.
     Version,
 }
@@ -22,6 +24,12 @@ pub struct InitWords {
     pub folder: Text,
     /// The name of the fact table, where it isn't to be that of the largest file.
     pub fact: Option<Text>,
+}
+
+/// To say the first fault that a load of a folder's tables would have.
+#[derive(Drop)]
+pub struct CheckWords {
+    pub folder: Text,
 }
 
 /// To print the plan of a query over the tables that a folder's catalogue declares.

@@ -40,11 +40,11 @@ all_judged all words i kept next over so =
 -- the word stays, or it doesn't
 pub word_kept : (stays : Bool) (old new : List (Bor (List ℕ))) (word : Bor (List ℕ)) (rest after : List (List ℕ)) → stays ≡ true → new ≡ old ++ word ∷ [] → rest ≡ (if stays then word.now ∷ after else after)
     → map (λ w. w.now) old ++ rest ≡ map (λ w. w.now) new ++ after
-word_kept true old new word rest after yes more is =
+word_kept true old new word rest after sure more is =
     ap (λ l. map (λ w. w.now) old ++ l) is
     ∙ sym (ap (λ (l : List (Bor (List ℕ))). map (λ w. w.now) l ++ after) more ∙ ap (λ l. l ++ after) (map-append (λ w. w.now) old (word ∷ [])) ∙ append_assoc (map (λ w. w.now) old) (word.now ∷ []) after)
-word_kept false old new word rest after yes more is = cc yes
+word_kept false old new word rest after sure more is = cc sure
 
 pub word_dropped : (stays : Bool) (kept : List (List ℕ)) (word : List ℕ) (rest after : List (List ℕ)) → stays ≡ false → rest ≡ (if stays then word ∷ after else after) → kept ++ rest ≡ kept ++ after
-word_dropped false kept word rest after no is = ap (λ l. kept ++ l) is
-word_dropped true kept word rest after no is = cc no
+word_dropped false kept word rest after sure is = ap (λ l. kept ++ l) is
+word_dropped true kept word rest after sure is = cc sure

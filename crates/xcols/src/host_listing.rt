@@ -73,11 +73,51 @@ fn add_files<R: Files + Alloc + Clone + Drop>(
     add_entries(alloc, files, entries, found)
 }
 
+// Puts the name of an entry that is no `NAME.csv` among those that were found.
+fn add_name<R: Files + Alloc + Clone + Drop>(
+    alloc: Global,
+    entry: io::Result<DirEntry<R, R::A>>,
+    found: &mut Vec<String>,
+) -> io::Result<()> {
+    let entry = entry?;
+    if entry.file_name().ends_with(".csv") {
+        return Ok(());
+    }
+    found.push(String::from_str(alloc, entry.file_name())?)?;
+    Ok(())
+}
+
+fn add_names<R: Files + Alloc + Clone + Drop>(
+    alloc: Global,
+    files: &R,
+    directory: &str,
+    found: &mut Vec<String>,
+) -> io::Result<()> {
+    for entry in fs::read_dir(files, directory)? {
+        add_name(alloc, entry, found)?;
+    }
+    Ok(())
+}
+
 impl<'a, R: Files<File = File> + Alloc + Clone + Drop> Listing for HostFolder<'a, R> {
     fn csv_files(&self, alloc: Global, directory: &str) -> io::Result<Vec<CsvFile>> {
         let mut found = Vec::new(alloc);
         match add_files(alloc, self.files(), directory, &mut found) {
             Ok(()) => Ok(found),
+            Err(error) => {
+                drop(found);
+                Err(error)
+            }
+        }
+    }
+
+    fn other_files(&self, alloc: Global, directory: &str) -> io::Result<Vec<String>> {
+        let mut found = Vec::new(alloc);
+        match add_names(alloc, self.files(), directory, &mut found) {
+            Ok(()) => {
+                found.sort()?;
+                Ok(found)
+            }
             Err(error) => {
                 drop(found);
                 Err(error)

@@ -7,5 +7,5 @@ pub returns : goal.returns
 returns c =
     IfOk-weaker c.format.result _ _ (λ text is. (
       c.args.table.now,
-      is ∙ ap (λ (words : List ℕ). codes "ahead on the rows of " ++ (c.args.table.now ++ words)) c.marks_words-words.ensures,
+      is ∙ ap (λ (words : List ℕ). codes "once for each row of " ++ (c.args.table.now ++ words)) c.marks_words-words.ensures,
     )) c.format.ensures.ok

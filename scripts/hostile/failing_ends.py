@@ -142,7 +142,7 @@ def close_outputs(files, gather, whole):
             put(room, files)
             done = subprocess.run([XCOLS, *words], cwd=room, stdout=write, stderr=subprocess.PIPE, timeout=600)
             os.close(write)
-            tally.check(f"{name} into a closed pipe", done.returncode in (1, -13), f"{done.returncode} {done.stderr}")
+            tally.check(f"{name} into a closed pipe", (done.returncode, done.stderr) == (141, b""), f"{done.returncode} {done.stderr}")
     # The file that is passed over is named on standard error.
     for shell in ("2>/dev/full", "2>&-"):
         done, found = output_of(files, gather + ["none"], shell)

@@ -70,7 +70,7 @@ unpack_release() {
     chmod 755 "$part"
     if ! "$part" --version >/dev/null 2>&1; then
         rm -f "$part"
-        refuse "the release in dist/ doesn't run here: it needs the C library glibc 2.34 or later, and this is $(getconf GNU_LIBC_VERSION 2>/dev/null || echo another one); where the Rattle toolchain runs, ./xcols --prove builds the program"
+        refuse "the release in dist/ doesn't run here: it needs a processor of x86-64-v2 and the C library glibc 2.34 or later (here: $(getconf GNU_LIBC_VERSION 2>/dev/null || echo another library)); where the Rattle toolchain runs, ./xcols --prove builds the program"
     fi
     # What another run unpacked is the same.
     mv "$part" "$unpacked/xcols"
